@@ -1,0 +1,36 @@
+-- Document 01, 'Holds: at each real step a carrier either does its next listed move or stay, or is held. A pattern says who
+-- is held when; each carrier is held at most k times in all. A collision is two carriers on one cell at one real moment,
+-- or exchanging neighbouring cells in one real step.'
+use Prim.Native.Nat.{ℕ, zero, suc, _+_, _≤_, _<_, min}
+use mathlib.Core.Path.{_≡_}
+use mathlib.Core.Bool.{Bool, true, false}
+
+-- a pattern: is carrier i held in the real step from moment n to moment n + 1?
+abbrev pub Pattern : Type 0
+Pattern = ℕ → ℕ → Bool
+
+-- how often a carrier has been held, and how many steps of its route it has done, at a real moment
+unfoldable pub heldBy : (ℕ → Bool) → ℕ → ℕ
+heldBy held zero = zero
+heldBy held (suc n) = elim (held n) [ true ↦ suc (heldBy held n) | false ↦ heldBy held n ]
+
+unfoldable pub doneBy : (ℕ → Bool) → ℕ → ℕ
+doneBy held zero = zero
+doneBy held (suc n) = elim (held n) [ true ↦ doneBy held n | false ↦ suc (doneBy held n) ]
+
+-- 'each carrier is held at most k times in all'
+unfoldable pub Sparing : (ℕ → ℕ) → ℕ → Pattern → Type 0
+Sparing slip m p = (i : ℕ) → i < m → (n : ℕ) → heldBy (p i) n ≤ slip i
+
+-- where carrier i is at a real moment: 'After H the carrier stands on its goal for ever.'
+unfoldable pub placeAt : (ℕ → ℕ → ℕ) → ℕ → Pattern → ℕ → ℕ → ℕ
+placeAt at h p i n = at i (min (doneBy (p i) n) h)
+
+-- no collision of i and j at moment n, nor in the real step that starts there
+pub record Clean (at : ℕ → ℕ → ℕ) (h : ℕ) (p : Pattern) (i j n : ℕ) : Type 0 where
+  pub not-together : placeAt at h p i n ≡ placeAt at h p j n → ⊥
+  pub not-through : placeAt at h p i n ≡ placeAt at h p j (n + 1) → placeAt at h p j n ≡ placeAt at h p i (n + 1) → ⊥
+
+-- no pattern of holds ever brings two of m carriers together, at any real moment without end
+unfoldable pub Survives : (ℕ → ℕ → ℕ) → (ℕ → ℕ) → ℕ → ℕ → Type 0
+Survives at slip h m = (p : Pattern) → Sparing slip m p → (i j : ℕ) → i < m → j < m → (i ≡ j → ⊥) → (n : ℕ) → Clean at h p i j n

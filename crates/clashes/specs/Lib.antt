@@ -1,0 +1,4 @@
+pub mod Check
+pub mod Chosen
+pub mod Clash
+pub mod Holds

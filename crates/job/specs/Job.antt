@@ -1,0 +1,78 @@
+-- Document 01: 'A job is a hall, a list of carriers (each a record of start cell and goal cell, numbered from 0), the
+-- delay bound k (0 to 4), the horizon H (0 to 63) and the capacity N'. The two checks have no N, so it stands beside.
+-- The carriers are read by their number, so that every form in which a caller lends them is the same job.
+use Prim.Native.Nat.{ℕ, suc, _+_, _-_, _*_}
+use mathlib.Core.Bool.{Bool, not, _&&_, _||_}
+use mathlib.Core.List.{List, map}
+use mathlib.Core.Option.{Option}
+use lib.Dec.{eqb, ltb}
+use lib.ListN.{length, getD}
+use Rattle.lists.specs.Lists.{range, each, firstOf}
+use Rattle.hall.specs.Hall.{Hall, isOpen}
+
+pub record Job : Type 0 where
+  pub hall : Hall
+  pub count : ℕ
+  pub startOf : ℕ → ℕ
+  pub goalOf : ℕ → ℕ
+  pub delay : ℕ
+  pub horizon : ℕ
+
+-- how many steps carrier i may slip, and the most that any may: document 01 gives every carrier k
+abbrev pub slipOf : Job → ℕ → ℕ
+slipOf job i = job .delay
+
+abbrev pub mostSlip : Job → ℕ
+mostSlip job = job .delay
+
+-- the bytes of a plan: 'carrier by carrier, its cells for steps 0 to H'
+abbrev pub planLength : Job → ℕ
+planLength job = job .count * (job .horizon + 1)
+
+abbrev pub planCell : Job → List ℕ → ℕ → ℕ → ℕ
+planCell job plan i t = getD plan (i * (job .horizon + 1) + t) 0
+
+abbrev pub mostDelay : ℕ
+mostDelay = 4
+
+abbrev pub mostHorizon : ℕ
+mostHorizon = 63
+
+abbrev pub mostRecords : ℕ
+mostRecords = 1024
+
+abbrev pub mostCarriers : ℕ
+mostCarriers = 8
+
+-- answer 3: 'k above 4, H above 63, or N is 0 or above 1,024'
+unfoldable pub wrongLimits : Job → Bool
+wrongLimits job = ltb mostDelay (job .delay) || ltb mostHorizon (job .horizon)
+
+unfoldable pub wrongCapacity : ℕ → Bool
+wrongCapacity n = eqb n 0 || ltb mostRecords n
+
+-- answer 4: 'no carrier, or more than 8'
+unfoldable pub wrongCount : Job → Bool
+wrongCount job = eqb (job .count) 0 || ltb mostCarriers (job .count)
+
+-- answer 5: 'a start or goal is outside the grid or closed'; told is 'first such carrier'
+unfoldable pub wrongEnds : Job → ℕ → Bool
+wrongEnds job i = not (isOpen (job .hall) (job .startOf i)) || not (isOpen (job .hall) (job .goalOf i))
+
+unfoldable pub firstWrong : Job → Option ℕ
+firstWrong job = firstOf (wrongEnds job) (range 0 (job .count))
+
+-- answer 6: 'two carriers share a start, or share a goal'; told is 'least i, then least j, i < j'
+pub record Pair : Type 0 where
+  pub one : ℕ
+  pub two : ℕ
+
+unfoldable pub share : Job → Pair → Bool
+share job p = eqb (job .startOf (p .one)) (job .startOf (p .two)) || eqb (job .goalOf (p .one)) (job .goalOf (p .two))
+
+-- the pairs with i < j, by i and then by j
+unfoldable pub pairs : ℕ → List Pair
+pairs m = each (λ i. map (λ j. record { one = i; two = j }) (range (suc i) (m - suc i))) (range 0 m)
+
+unfoldable pub firstShared : Job → Option Pair
+firstShared job = firstOf (share job) (pairs (job .count))

@@ -1,0 +1,58 @@
+-- Document 01, 'Numbers given back', 1 to 6: 'If several apply, the lowest number is given.'
+use Prim.Native.Nat.{ℕ}
+use mathlib.Core.Bool.{Bool, true, false, _||_}
+use mathlib.Core.Option.{Option, none, some}
+use mathlib.Core.Path.{_≡_}
+use Rattle.hall.specs.Hall.{wrongGrid, wrongBytes}
+use Rattle.job.specs.Job.{Job, Pair, wrongLimits, wrongCount, firstWrong, firstShared}
+use Rattle.job.specs.Told.{Told, bare, named}
+use Rattle.job.specs.declared.Verdict.{Verdict}
+use Rattle.job.specs.declared.Verdict.the-variants.{Accepted, WrongGrid, WrongBytes, WrongLimits, WrongCount, WrongEnds, SharedEnds}
+
+-- the number and what is told, for each case
+abbrev pub verdictTold : Verdict → Told
+verdictTold Accepted = bare 0
+verdictTold WrongGrid = bare 1
+verdictTold WrongBytes = bare 2
+verdictTold WrongLimits = bare 3
+verdictTold WrongCount = bare 4
+verdictTold (WrongEnds i) = named 5 i 0
+verdictTold (SharedEnds i j) = named 6 i j
+
+unfoldable pub refuseIf : Bool → Verdict → Verdict → Verdict
+refuseIf true v rest = v
+refuseIf false v rest = rest
+
+unfoldable pub endsVerdict : Option ℕ → Verdict → Verdict
+endsVerdict none rest = rest
+endsVerdict (some i) rest = WrongEnds i
+
+unfoldable pub sharedVerdict : Option Pair → Verdict
+sharedVerdict none = Accepted
+sharedVerdict (some p) = SharedEnds (p .one) (p .two)
+
+-- the checks 1 to 6; the planner's third looks at N too, the plan checks' third does not
+unfoldable pub judgeWith : Bool → Job → Verdict
+judgeWith wrongN job =
+    refuseIf (wrongGrid (job .hall)) WrongGrid
+    (refuseIf (wrongBytes (job .hall)) WrongBytes
+    (refuseIf (wrongLimits job || wrongN) WrongLimits
+    (refuseIf (wrongCount job) WrongCount
+    (endsVerdict (firstWrong job) (sharedVerdict (firstShared job))))))
+
+unfoldable pub judge : Job → Verdict
+judge job = judgeWith false job
+
+-- the job passes checks 1 to 6
+abbrev pub IsAccepted : Job → Type 0
+IsAccepted job = judge job ≡ Accepted
+
+-- what comes where the job is accepted, and what where it is not
+unfoldable pub ifAccepted : {A : Type 0} → Verdict → A → A → A
+ifAccepted Accepted go stop = go
+ifAccepted WrongGrid go stop = stop
+ifAccepted WrongBytes go stop = stop
+ifAccepted WrongLimits go stop = stop
+ifAccepted WrongCount go stop = stop
+ifAccepted (WrongEnds i) go stop = stop
+ifAccepted (SharedEnds i j) go stop = stop

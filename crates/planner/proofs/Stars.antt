@@ -1,0 +1,23 @@
+-- The eleven ★ jobs of document 01, as one claim: what the definitions give is what is asked. antt computes both sides.
+-- Assumes nothing.
+use mathlib.Core.Path.{_≡_, refl}
+use mathlib.Core.List.{map}
+use Rattle.lists.specs.Lists.{range, sumTo, only, keep, anyOf, firstOf, each}
+use Rattle.hall.specs.Hall.{wrongSide, wrongGrid, wrongByte, wrongBytes, isOpen}
+use Rattle.hall.specs.Moves.{onGrid, cellAt, landing, reachFrom, reach}
+use Rattle.job.specs.Job.{wrongLimits, wrongCapacity, wrongCount, wrongEnds, firstWrong, share, pairs, firstShared}
+use Rattle.job.specs.Verdict.{refuseIf, endsVerdict, sharedVerdict, judgeWith, ifAccepted}
+use Rattle.routes.specs.Route.{stepCost, cost}
+use Rattle.routes.specs.Bars.{barsFor, barsCell, barsWay, mayStand, mayTurn}
+use Rattle.routes.specs.Best.{cheaper, better, bestOf, inFront, bestWay, bestRoute}
+use Rattle.clashes.specs.Chosen.{written, meets, swaps, happens, overPairs, atStep, candidates, orClear, chosen}
+use Rattle.search.specs.Search.{prefer, takeLeast, run, search}
+use Rattle.planner.specs.Plan.{total}
+use Rattle.planner.specs.Tables.{shortTable, zeroed, workedOn, planWritten, withPlan}
+use Rattle.planner.specs.Tree.{routeUnder, withRoute, freeRoutes, rootOf, root, nodeSum, clashOf, isClear, nodeClear, barOne, barTwo, childWith, child, kidsFor, kids, tree}
+use Rattle.planner.specs.Answer.{searched, enough, planned}
+use Rattle.planner.specs.Stars.{asked, given, stars}
+
+pub stars-hold : map given stars ≡ map asked stars
+unfolding range sumTo only keep anyOf firstOf each wrongSide wrongGrid wrongByte wrongBytes isOpen onGrid cellAt landing reachFrom reach wrongLimits wrongCapacity wrongCount wrongEnds firstWrong share pairs firstShared refuseIf endsVerdict sharedVerdict judgeWith ifAccepted stepCost cost barsFor barsCell barsWay mayStand mayTurn cheaper better bestOf inFront bestWay bestRoute written meets swaps happens overPairs atStep candidates orClear chosen prefer takeLeast run search total shortTable zeroed workedOn planWritten withPlan routeUnder withRoute freeRoutes rootOf root nodeSum clashOf isClear nodeClear barOne barTwo childWith child kidsFor kids tree searched enough planned stars
+stars-hold = refl

@@ -1,0 +1,5 @@
+pub mod Answer
+pub mod Plan
+pub mod Stars
+pub mod Tables
+pub mod Tree

@@ -1,0 +1,84 @@
+-- Document 01, 'Jobs worked by hand': the eleven marked ★ for proof, one table. The law `stars-hold` is the claim.
+-- 'Cells all open; k is 0 and N is 128 where not given'.
+use Prim.Native.Nat.{ℕ, _+_, _*_}
+use mathlib.Core.List.{List, [], _∷_, _++_}
+use lib.ListN.{length, getD, replicate}
+use Rattle.lists.specs.Lists.{each}
+use Rattle.hall.specs.Hall.{Hall, size, openByte}
+use Rattle.job.specs.Job.{Job, planLength}
+use Rattle.job.specs.Told.{Told, counted}
+use Rattle.planner.specs.Plan.{Routes}
+use Rattle.planner.specs.Tables.{Tables, columnsLength, plansLength, layersLength}
+use Rattle.planner.specs.Answer.{Result, planned, answerTold}
+
+pub record Star : Type 0 where
+  pub width : ℕ
+  pub height : ℕ
+  pub starts : List ℕ
+  pub goals : List ℕ
+  pub delay : ℕ
+  pub horizon : ℕ
+  pub capacity : ℕ
+  -- what document 01 says: number, sum, records; and the routes, none where there is no plan
+  pub told : Told
+  pub routes : Routes
+
+abbrev pub starJob : Star → Job
+starJob s =
+    record {
+      hall = record { width = s .width; height = s .height; bytes = replicate (s .width * s .height) openByte };
+      count = length (s .starts);
+      startOf = λ i. getD (s .starts) i 0;
+      goalOf = λ i. getD (s .goals) i 0;
+      delay = s .delay;
+      horizon = s .horizon;
+    }
+
+-- tables of just the least lengths
+abbrev pub starTables : Star → Tables
+starTables s =
+    record {
+      columns = replicate (columnsLength (s .capacity)) 0;
+      plans = replicate (plansLength (starJob s) (s .capacity)) 0;
+      layers = replicate (layersLength (starJob s)) 0;
+      output = replicate (planLength (starJob s)) 0;
+    }
+
+-- what is asked of a job, and what the definitions give: the told numbers and the output
+pub record Seen : Type 0 where
+  pub told : Told
+  pub output : List ℕ
+
+abbrev pub outputOf : Star → Routes → List ℕ
+outputOf s [] = starTables s .output
+outputOf s (r ∷ rs) = each (λ x. x) (r ∷ rs)
+
+abbrev pub asked : Star → Seen
+asked s = record { told = s .told; output = outputOf s (s .routes) }
+
+abbrev pub seen : Result → Seen
+seen r = record { told = answerTold (r .answer); output = r .tables .output }
+
+abbrev pub given : Star → Seen
+given s = seen (planned (starJob s) (s .capacity) (starTables s))
+
+-- width, height, starts, goals, k, H, N; number, sum, records; routes
+star : ℕ → ℕ → List ℕ → List ℕ → ℕ → ℕ → ℕ → Told → Routes → Star
+star w h ss gs k horizon n t rs =
+    record { width = w; height = h; starts = ss; goals = gs; delay = k; horizon = horizon; capacity = n; told = t; routes = rs }
+
+unfoldable pub stars : List Star
+unfolding star
+stars =
+    star 3 3 (3 ∷ 1 ∷ []) (5 ∷ 7 ∷ []) 0 4 3 (counted 0 5 3) ((3 ∷ 3 ∷ 4 ∷ 5 ∷ 5 ∷ []) ∷ (1 ∷ 4 ∷ 7 ∷ 7 ∷ 7 ∷ []) ∷ [])
+    ∷ star 3 3 (3 ∷ 1 ∷ []) (5 ∷ 7 ∷ []) 0 4 2 (counted 9 0 2) []
+    ∷ star 3 3 (3 ∷ 1 ∷ []) (5 ∷ 7 ∷ []) 1 4 3 (counted 0 6 3) ((3 ∷ 0 ∷ 1 ∷ 2 ∷ 5 ∷ []) ∷ (1 ∷ 4 ∷ 7 ∷ 7 ∷ 7 ∷ []) ∷ [])
+    ∷ star 3 1 (0 ∷ []) (2 ∷ []) 0 2 128 (counted 0 2 1) ((0 ∷ 1 ∷ 2 ∷ []) ∷ [])
+    ∷ star 3 1 (0 ∷ []) (2 ∷ []) 0 1 128 (counted 8 0 0) []
+    ∷ star 3 1 (0 ∷ 2 ∷ []) (2 ∷ 0 ∷ []) 0 2 128 (counted 8 0 1) []
+    ∷ star 1 1 (0 ∷ []) (0 ∷ []) 0 0 128 (counted 0 0 1) ((0 ∷ []) ∷ [])
+    ∷ star 2 1 (0 ∷ 1 ∷ []) (1 ∷ 0 ∷ []) 0 1 128 (counted 8 0 1) []
+    ∷ star 3 1 (0 ∷ 1 ∷ []) (1 ∷ 2 ∷ []) 0 1 128 (counted 0 2 1) ((0 ∷ 1 ∷ []) ∷ (1 ∷ 2 ∷ []) ∷ [])
+    ∷ star 3 1 (0 ∷ 1 ∷ []) (1 ∷ 2 ∷ []) 1 1 128 (counted 8 0 1) []
+    ∷ star 3 1 (0 ∷ 1 ∷ []) (1 ∷ 2 ∷ []) 1 2 128 (counted 0 3 2) ((0 ∷ 0 ∷ 1 ∷ []) ∷ (1 ∷ 2 ∷ 2 ∷ []) ∷ [])
+    ∷ []

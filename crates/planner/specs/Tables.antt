@@ -1,0 +1,53 @@
+-- Document 01, 'Lent tables, for m carriers: record columns, 16-bit, at least 8 × N; plans, bytes, at least
+-- N × m × (H + 1); layers, bytes, at least (H + 1) × width × height; output, at least m × (H + 1) bytes.'
+use Prim.Native.Nat.{ℕ, _+_, _*_}
+use mathlib.Core.Bool.{Bool, _||_}
+use mathlib.Core.List.{List, _++_}
+use lib.Dec.{ltb}
+use lib.ListN.{length, drop, replicate}
+use Rattle.hall.specs.Hall.{size}
+use Rattle.lists.specs.Lists.{each}
+use Rattle.job.specs.Job.{Job, planLength}
+use Rattle.planner.specs.Plan.{Routes}
+
+pub record Tables : Type 0 where
+  pub columns : List ℕ
+  pub plans : List ℕ
+  pub layers : List ℕ
+  pub output : List ℕ
+
+abbrev pub columnsLength : ℕ → ℕ
+columnsLength capacity = 8 * capacity
+
+abbrev pub plansLength : Job → ℕ → ℕ
+plansLength job capacity = capacity * planLength job
+
+abbrev pub layersLength : Job → ℕ
+layersLength job = (job .horizon + 1) * size (job .hall)
+
+-- answer 7: 'a lent table is too short'
+unfoldable pub shortTable : Job → ℕ → Tables → Bool
+shortTable job capacity ts =
+    ltb (length (ts .columns)) (columnsLength capacity) || ltb (length (ts .plans)) (plansLength job capacity)
+    || (ltb (length (ts .layers)) (layersLength job) || ltb (length (ts .output)) (planLength job))
+
+-- the first n entries zero, 'the rest unchanged'
+unfoldable pub zeroed : ℕ → List ℕ → List ℕ
+zeroed n xs = replicate n 0 ++ drop n xs
+
+-- 'After 0, 8 and 9 the named least lengths of the first three tables are all zero and the rest unchanged.'
+unfoldable pub workedOn : Job → ℕ → Tables → Tables
+workedOn job capacity ts =
+    record {
+      columns = zeroed (columnsLength capacity) (ts .columns);
+      plans = zeroed (plansLength job capacity) (ts .plans);
+      layers = zeroed (layersLength job) (ts .layers);
+      output = ts .output;
+    }
+
+-- 'Output changes only for 0: carrier by carrier, its cells for steps 0 to H, the rest unchanged.'
+unfoldable pub planWritten : Job → Routes → List ℕ → List ℕ
+planWritten job rs xs = each (λ r. r) rs ++ drop (planLength job) xs
+
+unfoldable pub withPlan : Job → Routes → Tables → Tables
+withPlan job rs ts = record { columns = ts .columns; plans = ts .plans; layers = ts .layers; output = planWritten job rs (ts .output) }

@@ -1,0 +1,4 @@
+pub mod Bars
+pub mod Best
+pub mod Check
+pub mod Route

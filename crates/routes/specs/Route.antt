@@ -1,0 +1,34 @@
+-- Document 01, 'Routes, costs, meetings': a route, its lawfulness and its cost.
+use Prim.Native.Nat.{ℕ, zero, suc, _+_, _<_}
+use mathlib.Core.Path.{_≡_}
+use mathlib.Core.Bool.{Bool, true, false, _&&_}
+use mathlib.Core.List.{List, [], _∷_, List·Memᴰ}
+use lib.Dec.{T, eqb}
+use lib.ListN.{length, getD}
+use Rattle.hall.specs.Hall.{isOpen}
+use Rattle.hall.specs.Moves.{mayFollow}
+use Rattle.job.specs.Job.{Job}
+
+-- the cell of a route at a step
+abbrev pub cellOf : List ℕ → ℕ → ℕ
+cellOf r t = getD r t 0
+
+-- 'A route gives one cell for each step 0 to H: the start at 0, the goal at H, one lawful move or stay between.'
+pub record Lawful (job : Job) (i : ℕ) (r : List ℕ) : Type 0 where
+  pub long : length r ≡ job .horizon + 1
+  pub starts : cellOf r 0 ≡ job .startOf i
+  pub opens : T (isOpen (job .hall) (cellOf r 0))
+  pub follows : (t : ℕ) → t < job .horizon → List·Memᴰ (cellOf r (t + 1)) (mayFollow (job .hall) (cellOf r t))
+  pub ends : cellOf r (job .horizon) ≡ job .goalOf i
+
+-- one step more in front of a rest that costs c: nothing is added only where all of the rest is on the goal, and this too
+unfoldable pub stepCost : Bool → ℕ → ℕ
+stepCost true zero = zero
+stepCost true (suc c) = suc (suc c)
+stepCost false c = suc c
+
+-- 'Its cost is the least step from which it is on its goal at every step up to H. A stay before that costs 1, as a move
+-- does. Passing over the goal and leaving it again doesn't end the count.'
+unfoldable pub cost : ℕ → List ℕ → ℕ
+cost goal [] = 0
+cost goal (v ∷ r) = stepCost (eqb v goal) (cost goal r)
