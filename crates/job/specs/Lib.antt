@@ -1,3 +1,4 @@
 pub mod Job
+pub mod Team
 pub mod Told
 pub mod Verdict

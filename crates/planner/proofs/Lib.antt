@@ -1,1 +1,5 @@
+pub mod Covers
+pub mod Nodes
+pub mod Promises
 pub mod Stars
+pub mod Weight

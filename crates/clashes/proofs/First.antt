@@ -1,0 +1,146 @@
+-- Rule 5 in words: the chosen clash is not later than any other that happens. The candidates are listed in rule 5's order,
+-- and the first of them that passes is chosen.
+-- Assumes nothing.
+use Prim.Native.Nat.{ℕ, _+_, _≤_, _<_}
+use mathlib.Core.Path.{_≡_, refl, sym}
+use mathlib.Core.Option.{Option, none, some}
+use native.Mathlib.Omega.{arith}
+use lib.Dec.{T}
+use Rattle.lists.specs.Lists.{range, firstOf, Every}
+use Rattle.clashes.specs.Clash.{Meets, Swaps}
+use Rattle.clashes.specs.Chosen.{happens, overPairs, atStep, candidates, orClear, chosen}
+use Rattle.clashes.specs.declared.Clash.{Clash}
+use Rattle.clashes.specs.declared.Clash.the-variants.{Clear, Meeting, Swap}
+use Rattle.clashes.proofs.Lists.{FirstFact, LeastFact, first-least, InOrder, order-append, order-map, order-each, order-range, every-map, every-below}
+use Rattle.clashes.proofs.Candidates.{Listed, row, meetingsAt, every-pair, every-meeting, every-at-step, candidate-every, first-passed, meeting-passes, swap-passes}
+
+-- 'least t, then least D, then least i, then least j. A swap at t comes after all meetings at t and before those at t + 1;
+-- among swaps least i, then least j'. No clash at all comes after every clash.
+unfoldable pub NotLater : Clash → Clash → Type 0
+NotLater (Meeting i j t d) (Meeting i' j' t' d') =
+    (t ≤ t') × (t ≡ t' → d ≤ d') × (t ≡ t' → d ≡ d' → i ≤ i') × (t ≡ t' → d ≡ d' → i ≡ i' → j ≤ j')
+NotLater (Meeting i j t d) (Swap i' j' t') = t ≤ t'
+NotLater (Meeting i j t d) Clear = Unit {0}
+NotLater (Swap i j t) (Meeting i' j' t' d') = t < t'
+NotLater (Swap i j t) (Swap i' j' t') = (t ≤ t') × (t ≡ t' → i ≤ i') × (t ≡ t' → i ≡ i' → j ≤ j')
+NotLater (Swap i j t) Clear = Unit {0}
+NotLater Clear (Meeting i' j' t' d') = ⊥
+NotLater Clear (Swap i' j' t') = ⊥
+NotLater Clear Clear = Unit {0}
+
+not-later-self : (c : Clash) → NotLater c c
+unfolding NotLater
+not-later-self Clear = tt
+not-later-self (Meeting i j t d) = omega arith
+not-later-self (Swap i j t) = omega arith
+
+-- ---- the candidates are in order
+
+module _ (m : ℕ) where
+  pairs-in-order : (clash : ℕ → ℕ → Clash) → ((i j j' : ℕ) → j < j' → NotLater (clash i j) (clash i j')) → ((i j i' j' : ℕ) → i < i' → NotLater (clash i j) (clash i' j')) → InOrder NotLater (overPairs m clash)
+  unfolding overPairs
+  pairs-in-order clash inner outer =
+      order-each NotLater (row m clash) (range 0 m)
+      (every-below (λ i. InOrder NotLater (row m clash i)) m
+      (λ i im. order-map NotLater (λ j. clash i j) (range 0 m) (order-range (λ j j'. NotLater (clash i j) (clash i j')) 0 m (λ j j' _ less _. inner i j j' less))))
+      (order-range (λ i i'. Every (λ x. Every (NotLater x) (row m clash i')) (row m clash i)) 0 m
+      (λ i i' _ less _.
+      every-map (λ x. Every (NotLater x) (row m clash i')) (λ j. clash i j) (range 0 m)
+      (every-below (λ j. Every (NotLater (clash i j)) (row m clash i')) m
+      (λ j _. every-map (NotLater (clash i j)) (λ j. clash i' j) (range 0 m)
+      (every-below (λ j'. NotLater (clash i j) (clash i' j')) m (λ j' _. outer i j i' j' less))))))
+
+  module _ (most : ℕ) where
+    meetings-in-order : (t : ℕ) → InOrder NotLater (meetingsAt m most t)
+    unfolding NotLater
+    meetings-in-order t =
+        order-each NotLater (λ d. overPairs m (λ i j. Meeting i j t d)) (range 0 (most + 1))
+        (every-below (λ d. InOrder NotLater (overPairs m (λ i j. Meeting i j t d))) (most + 1)
+        (λ d _. pairs-in-order (λ i j. Meeting i j t d) (λ i j j' less. omega arith) (λ i j i' j' less. omega arith)))
+        (order-range (λ d d'. Every (λ x. Every (NotLater x) (overPairs m (λ i j. Meeting i j t d'))) (overPairs m (λ i j. Meeting i j t d))) 0 (most + 1)
+        (λ d d' _ less _.
+        every-pair (λ x. Every (NotLater x) (overPairs m (λ i j. Meeting i j t d'))) m (λ i j. Meeting i j t d)
+        (λ i j _ _. every-pair (NotLater (Meeting i j t d)) m (λ i j. Meeting i j t d') (λ i' j' _ _. omega arith))))
+
+    step-in-order : (t : ℕ) → InOrder NotLater (atStep m most t)
+    unfolding atStep NotLater
+    step-in-order t =
+        order-append NotLater (meetingsAt m most t) (overPairs m (λ i j. Swap i j t))
+        (meetings-in-order t)
+        (pairs-in-order (λ i j. Swap i j t) (λ i j j' less. omega arith) (λ i j i' j' less. omega arith))
+        (every-meeting (λ x. Every (NotLater x) (overPairs m (λ i j. Swap i j t))) m most t
+        (λ i j d _ _ _. every-pair (NotLater (Meeting i j t d)) m (λ i j. Swap i j t) (λ i' j' _ _. omega arith)))
+
+    candidates-in-order : (h : ℕ) → InOrder NotLater (candidates m most h)
+    unfolding candidates NotLater
+    candidates-in-order h =
+        order-each NotLater (atStep m most) (range 0 (h + 1))
+        (every-below (λ t. InOrder NotLater (atStep m most t)) (h + 1) (λ t _. step-in-order t))
+        (order-range (λ t t'. Every (λ x. Every (NotLater x) (atStep m most t')) (atStep m most t)) 0 (h + 1)
+        (λ t t' _ less _.
+        every-at-step (λ x. Every (NotLater x) (atStep m most t')) m most t
+        (λ i j d _ _ _. every-at-step (NotLater (Meeting i j t d)) m most t' (λ i' j' d' _ _ _. omega arith) (λ i' j' _ _. omega arith))
+        (λ i j _ _. every-at-step (NotLater (Swap i j t)) m most t' (λ i' j' d' _ _ _. omega arith) (λ i' j' _ _. omega arith))))
+
+-- ---- so the chosen one is the first, and nothing else is
+
+not-later-both : (c c' : Clash) → NotLater c c' → NotLater c' c → c ≡ c'
+unfolding NotLater
+not-later-both Clear Clear f g = refl
+not-later-both Clear (Meeting i j t d) f g = absurd f
+not-later-both Clear (Swap i j t) f g = absurd f
+not-later-both (Meeting i j t d) Clear f g = absurd g
+not-later-both (Meeting i j t d) (Meeting i' j' t' d') f g =
+    let e : t ≡ t' = omega arith in
+    let near : (d ≤ d') × (d' ≤ d) = (f .1 e, g .1 (sym e)) in
+    let e₁ : d ≡ d' = omega arith in
+    let low : (i ≤ i') × (i' ≤ i) = (f .2 e e₁, g .2 (sym e) (sym e₁)) in
+    let e₂ : i ≡ i' = omega arith in
+    let last : (j ≤ j') × (j' ≤ j) = (f .3 e e₁ e₂, g .3 (sym e) (sym e₁) (sym e₂)) in
+    let e₃ : j ≡ j' = omega arith in
+    cc
+not-later-both (Meeting i j t d) (Swap i' j' t') f g = absurd (omega arith)
+not-later-both (Swap i j t) Clear f g = absurd g
+not-later-both (Swap i j t) (Meeting i' j' t' d') f g = absurd (omega arith)
+not-later-both (Swap i j t) (Swap i' j' t') f g =
+    let e : t ≡ t' = omega arith in
+    let low : (i ≤ i') × (i' ≤ i) = (f .1 e, g .1 (sym e)) in
+    let e₁ : i ≡ i' = omega arith in
+    let last : (j ≤ j') × (j' ≤ j) = (f .2 e e₁, g .2 (sym e) (sym e₁)) in
+    let e₂ : j ≡ j' = omega arith in
+    cc
+
+module _ (at : ℕ → ℕ → ℕ) (slip : ℕ → ℕ) (most h m : ℕ) where
+  module _ (c : Clash) (listed : Listed m most h c) (test : T (happens at slip h c)) where
+    first-of : (o : Option Clash) → FirstFact (happens at slip h) (Listed m most h) (candidates m most h) o → LeastFact (happens at slip h) NotLater (candidates m most h) o → NotLater (orClear o) c
+    unfolding FirstFact LeastFact orClear
+    first-of none fails least = absurd (candidate-every (λ c. T (happens at slip h c) → ⊥) m most h fails c listed test)
+    first-of (some x) first least = candidate-every (λ c. T (happens at slip h c) → NotLater x c) m most h least c listed test
+
+    pub chosen-first : NotLater (chosen at slip most h m) c
+    unfolding chosen
+    chosen-first =
+        first-of (firstOf (happens at slip h) (candidates m most h)) (first-passed at slip most h m)
+        (first-least (happens at slip h) NotLater not-later-self (candidates m most h) (candidates-in-order m most h))
+
+    module _ (first : (c' : Clash) → Listed m most h c' → T (happens at slip h c') → NotLater c c') where
+      only-of : (o : Option Clash) → FirstFact (happens at slip h) (Listed m most h) (candidates m most h) o → NotLater (orClear o) c → orClear o ≡ c
+      unfolding FirstFact orClear
+      only-of none fails least = absurd (candidate-every (λ c. T (happens at slip h c) → ⊥) m most h fails c listed test)
+      only-of (some x) passed least = not-later-both x c least (first x (passed .1) (passed .0))
+
+      pub first-chosen : chosen at slip most h m ≡ c
+      unfolding chosen
+      first-chosen = only-of (firstOf (happens at slip h) (candidates m most h)) (first-passed at slip most h m) chosen-first
+
+  module _ (within : (i : ℕ) → i < m → slip i ≤ most) where
+    -- 'For D = 0 write the smaller number first.'
+    pub no-meeting-sooner : (i j t d : ℕ) → i < m → j < m → (d ≡ 0 → i < j) → Meets at slip h i j t d → NotLater (chosen at slip most h m) (Meeting i j t d)
+    no-meeting-sooner i j t d im jm less meets =
+        let passes = meeting-passes at slip most h m within i j t d im jm less meets in
+        chosen-first (Meeting i j t d) (passes .0) (passes .1)
+
+  pub no-swap-sooner : (i j t : ℕ) → i < m → j < m → i < j → Swaps at slip h i j t → NotLater (chosen at slip most h m) (Swap i j t)
+  no-swap-sooner i j t im jm less swaps =
+      let passes = swap-passes at slip most h m i j t im jm less swaps in
+      chosen-first (Swap i j t) (passes .0) (passes .1)

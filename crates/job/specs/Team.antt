@@ -1,0 +1,18 @@
+-- The job that a caller lends as numbers, hall bytes and the carriers by value.
+use Prim.Native.Nat.{ℕ}
+use mathlib.Core.List.{List}
+use lib.ListN.{getD}
+use Rattle.job.specs.Job.{Job}
+use Rattle.job.specs.declared.Team.{Team}
+
+-- width, height, hall bytes, carriers, k, H
+abbrev pub jobOf : ℕ → ℕ → List ℕ → Team → ℕ → ℕ → Job
+jobOf width height bytes team k h =
+    record {
+      hall = record { width = width; height = height; bytes = bytes };
+      count = team .count;
+      startOf = λ i. getD (team .starts) i 0;
+      goalOf = λ i. getD (team .goals) i 0;
+      delay = k;
+      horizon = h;
+    }

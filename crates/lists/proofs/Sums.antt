@@ -1,0 +1,61 @@
+-- Laws of sums and counts: termwise bounds, and that a count falls where one that passed passes no more. Assumes nothing.
+use Prim.Native.Nat.{ℕ, zero, suc, _+_, _≤_, _<_}
+use native.Mathlib.Omega.{arith}
+use mathlib.Core.Path.{_≡_, refl, sym, ap, subst, _∙_}
+use mathlib.Core.Logic.{⊎-elim}
+use mathlib.Core.Bool.{Bool, true, false}
+use mathlib.Core.List.{List, [], _∷_, _++_, List·Memᴰ, List·Memᴰ·not-nil, List·Memᴰ·cases-cons}
+use lib.Dec.{T}
+use lib.ListN.{length, length-append}
+use Rattle.lists.specs.Lists.{sumTo, only, keep}
+
+pub sum-le : (n : ℕ) (f g : ℕ → ℕ) → ((i : ℕ) → i < n → f i ≤ g i) → sumTo n f ≤ sumTo n g
+unfolding sumTo
+sum-le zero f g h = omega arith
+sum-le (suc n) f g h =
+    let a : sumTo n f ≤ sumTo n g = sum-le n f g (λ i l. h i (omega arith)) in
+    let b : f n ≤ g n = h n (omega arith) in
+    omega arith
+
+pub sum-same : (n : ℕ) (f g : ℕ → ℕ) → ((i : ℕ) → i < n → f i ≡ g i) → sumTo n f ≡ sumTo n g
+unfolding sumTo
+sum-same zero f g h = refl
+sum-same (suc n) f g h =
+    let a : sumTo n f ≡ sumTo n g = sum-same n f g (λ i l. h i (omega arith)) in
+    let b : f n ≡ g n = h n (omega arith) in
+    omega arith
+
+module _ {A : Type 0} where
+  -- how many pass
+  unfoldable pub count : (A → Bool) → List A → ℕ
+  count p xs = length (keep p xs)
+
+  one-le : (b c : Bool) (x : A) (k n : ℕ) → (T b → T c) → k ≤ n → length (only b x) + k ≤ length (only c x) + n
+  unfolding only
+  one-le true true x k n h l = omega arith
+  one-le true false x k n h l = absurd (h tt)
+  one-le false true x k n h l = omega arith
+  one-le false false x k n h l = omega arith
+
+  one-lt : (b c : Bool) (x : A) (k n : ℕ) → (T b → ⊥) → T c → k ≤ n → length (only b x) + k < length (only c x) + n
+  unfolding only
+  one-lt true c x k n h t l = absurd (h tt)
+  one-lt false true x k n h t l = omega arith
+  one-lt false false x k n h t l = absurd t
+
+  kept : (p : A → Bool) (x : A) (xs : List A) → count p (x ∷ xs) ≡ length (only (p x) x) + count p xs
+  unfolding count keep
+  kept p x xs = length-append (only (p x) x) (keep p xs)
+
+  pub count-le : (p q : A → Bool) (xs : List A) → ((x : A) → T (q x) → T (p x)) → count q xs ≤ count p xs
+  count-le p q [] h = unfold count keep in omega arith
+  count-le p q (x ∷ xs) h = rw (kept q x xs, kept p x xs) (one-le (q x) (p x) x (count q xs) (count p xs) (h x) (count-le p q xs h))
+
+  pub count-falls : (p q : A → Bool) (xs : List A) → ((x : A) → T (q x) → T (p x)) → (y : A) → List·Memᴰ y xs → T (p y) → (T (q y) → ⊥) → count q xs < count p xs
+  count-falls p q [] h y m t n = absurd (List·Memᴰ·not-nil m)
+  count-falls p q (x ∷ xs) h y m t n =
+      rw (kept q x xs, kept p x xs)
+      (⊎-elim
+      (λ (e : y ≡ x). one-lt (q x) (p x) x (count q xs) (count p xs) (subst (λ (a : A). T (q a) → ⊥) e n) (subst (λ (a : A). T (p a)) e t) (count-le p q xs h))
+      (λ (k : List·Memᴰ y xs). omega (arith, one-le (q x) (p x) x (suc (count q xs)) (count p xs) (h x) (count-falls p q xs h y k t n)))
+      (List·Memᴰ·cases-cons m))

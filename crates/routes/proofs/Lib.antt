@@ -1,0 +1,7 @@
+pub mod Bars
+pub mod Binds
+pub mod Cost
+pub mod Lawful
+pub mod Order
+pub mod Right
+pub mod Way

@@ -1,0 +1,4 @@
+pub mod Goes
+pub mod Least
+pub mod Need
+pub mod Taken
