@@ -1,5 +1,1 @@
-pub mod Covers
-pub mod Nodes
-pub mod Promises
 pub mod Stars
-pub mod Weight

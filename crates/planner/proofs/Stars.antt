@@ -12,9 +12,9 @@ use Rattle.routes.specs.Bars.{barsFor, barsCell, barsWay, mayStand, mayTurn}
 use Rattle.routes.specs.Best.{cheaper, better, bestOf, inFront, bestWay, bestRoute}
 use Rattle.clashes.specs.Chosen.{written, meets, swaps, happens, overPairs, atStep, candidates, orClear, chosen}
 use Rattle.search.specs.Search.{prefer, takeLeast, run, search}
-use Rattle.planner.specs.Plan.{total}
+use Rattle.tree.specs.Plan.{total}
 use Rattle.planner.specs.Tables.{shortTable, zeroed, workedOn, planWritten, withPlan}
-use Rattle.planner.specs.Tree.{routeUnder, withRoute, freeRoutes, rootOf, root, nodeSum, clashOf, isClear, nodeClear, barOne, barTwo, childWith, child, kidsFor, kids, tree}
+use Rattle.tree.specs.Tree.{routeUnder, withRoute, freeRoutes, rootOf, root, nodeSum, clashOf, isClear, nodeClear, barOne, barTwo, childWith, child, kidsFor, kids, tree}
 use Rattle.planner.specs.Answer.{searched, enough, planned}
 use Rattle.planner.specs.Stars.{asked, given, stars}
 

@@ -8,7 +8,7 @@ use lib.ListN.{length, drop, replicate}
 use Rattle.hall.specs.Hall.{size}
 use Rattle.lists.specs.Lists.{each}
 use Rattle.job.specs.Job.{Job, planLength}
-use Rattle.planner.specs.Plan.{Routes}
+use Rattle.tree.specs.Plan.{Routes}
 
 pub record Tables : Type 0 where
   pub columns : List ℕ

@@ -24,8 +24,8 @@ use Rattle.routes.specs.declared.Bar.{Bar}
 use Rattle.clashes.specs.Chosen.{chosen}
 use Rattle.clashes.specs.declared.Clash.{Clash}
 use Rattle.clashes.specs.declared.Clash.the-variants.{Clear, Meeting, Swap}
-use Rattle.planner.specs.Plan.{Routes, routeOf, cellsOf, total, Family, IsPlan}
-use Rattle.planner.specs.Tree.{Node, routeUnder, withRoute, freeRoutes, rootOf, root, nodeSum, clashOf, barOne, barTwo, childWith, child, kidsFor, kids}
+use Rattle.tree.specs.Plan.{Routes, routeOf, cellsOf, total, Family, IsPlan}
+use Rattle.tree.specs.Tree.{Node, routeUnder, withRoute, freeRoutes, rootOf, root, nodeSum, clashOf, barOne, barTwo, childWith, child, kidsFor, kids}
 use Rattle.clashes.proofs.Chosen.{ChosenFact, chosen-fact}
 use Rattle.routes.proofs.Right.{best-is-right}
 

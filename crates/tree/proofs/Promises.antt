@@ -17,12 +17,12 @@ use Rattle.search.specs.Search.{Outcome, done, full, search}
 use Rattle.search.proofs.Goes.{Goes, search-goes}
 use Rattle.search.proofs.Least.{found-least, spent-none}
 use Rattle.search.proofs.Need.{need-exists, need-unique}
-use Rattle.planner.specs.Plan.{Routes, routeOf, cellsOf, total, Family, IsPlan, IsSafe}
-use Rattle.planner.specs.Tree.{Node, root, nodeSum, clashOf, isClear, nodeClear, kids, tree}
-use Rattle.planner.specs.Promises.{LeastPlan, NoneExists, NeedIs, Need}
-use Rattle.planner.proofs.Nodes.{Good, In, clash-fact, kids-good, sum-bounds, root-good, root-covers, root-length}
-use Rattle.planner.proofs.Covers.{kids-cover}
-use Rattle.planner.proofs.Weight.{weight, kids-lighter}
+use Rattle.tree.specs.Plan.{Routes, routeOf, cellsOf, total, Family, IsPlan, IsSafe}
+use Rattle.tree.specs.Tree.{Node, root, nodeSum, clashOf, isClear, nodeClear, kids, tree}
+use Rattle.tree.specs.Promises.{LeastPlan, NoneExists, NeedIs, Need}
+use Rattle.tree.proofs.Nodes.{Good, In, clash-fact, kids-good, sum-bounds, root-good, root-covers, root-length}
+use Rattle.tree.proofs.Covers.{kids-cover}
+use Rattle.tree.proofs.Weight.{weight, kids-lighter}
 use Rattle.clashes.proofs.Chosen.{ChosenFact}
 use Rattle.clashes.proofs.Holds.{apart-survives, survives-apart}
 

@@ -29,9 +29,9 @@ use Rattle.clashes.specs.Clash.{Meets, Swaps}
 use Rattle.clashes.specs.declared.Clash.{Clash}
 use Rattle.clashes.specs.declared.Clash.the-variants.{Clear, Meeting, Swap}
 use Rattle.search.proofs.Need.{totalOf, total-append}
-use Rattle.planner.specs.Plan.{Routes, routeOf, cellsOf}
-use Rattle.planner.specs.Tree.{Node, routeUnder, clashOf, isClear, nodeClear, barOne, barTwo, childWith, child, kidsFor, kids}
-use Rattle.planner.proofs.Nodes.{Good, clash-fact}
+use Rattle.tree.specs.Plan.{Routes, routeOf, cellsOf}
+use Rattle.tree.specs.Tree.{Node, routeUnder, clashOf, isClear, nodeClear, barOne, barTwo, childWith, child, kidsFor, kids}
+use Rattle.tree.proofs.Nodes.{Good, clash-fact}
 use Rattle.clashes.proofs.Chosen.{ChosenFact}
 
 -- ---- places, and which of them are free

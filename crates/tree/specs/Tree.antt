@@ -13,7 +13,7 @@ use Rattle.clashes.specs.Chosen.{chosen}
 use Rattle.clashes.specs.declared.Clash.{Clash}
 use Rattle.clashes.specs.declared.Clash.the-variants.{Clear, Meeting, Swap}
 use Rattle.search.specs.Search.{Outcome, search}
-use Rattle.planner.specs.Plan.{Routes, routeOf, cellsOf, total}
+use Rattle.tree.specs.Plan.{Routes, routeOf, cellsOf, total}
 
 -- Rule 1. 'A bar binds a node if it stands in that node's record or in the record of one of its ancestors.' A node has all
 -- bars that bind it, its own in front, and a route for each carrier.

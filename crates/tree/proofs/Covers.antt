@@ -20,9 +20,9 @@ use Rattle.routes.specs.declared.Bar.the-variants.{Free, Stay, Cross}
 use Rattle.clashes.specs.Clash.{Meets, Swaps, Apart}
 use Rattle.clashes.specs.declared.Clash.{Clash}
 use Rattle.clashes.specs.declared.Clash.the-variants.{Clear, Meeting, Swap}
-use Rattle.planner.specs.Plan.{Routes, routeOf, cellsOf, Family, IsPlan}
-use Rattle.planner.specs.Tree.{Node, clashOf, isClear, nodeClear, barOne, barTwo, child, kidsFor, kids}
-use Rattle.planner.proofs.Nodes.{In, child-covers, clash-fact}
+use Rattle.tree.specs.Plan.{Routes, routeOf, cellsOf, Family, IsPlan}
+use Rattle.tree.specs.Tree.{Node, clashOf, isClear, nodeClear, barOne, barTwo, child, kidsFor, kids}
+use Rattle.tree.proofs.Nodes.{In, child-covers, clash-fact}
 use Rattle.clashes.proofs.Chosen.{ChosenFact}
 use Rattle.clashes.proofs.Holds.{apart-near}
 

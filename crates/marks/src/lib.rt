@@ -1,0 +1,1 @@
+// The bars of a node, marked in the lent layers, so that filling them never walks the ancestors.

@@ -1,0 +1,4 @@
+pub mod Covers
+pub mod Nodes
+pub mod Promises
+pub mod Weight
