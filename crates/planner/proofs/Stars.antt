@@ -13,7 +13,7 @@ use Rattle.routes.specs.Best.{cheaper, better, bestOf, inFront, bestWay, bestRo
 use Rattle.clashes.specs.Chosen.{written, meets, swaps, happens, overPairs, atStep, candidates, orClear, chosen}
 use Rattle.search.specs.Search.{prefer, takeLeast, run, search}
 use Rattle.tree.specs.Plan.{total}
-use Rattle.planner.specs.Tables.{shortTable, zeroed, workedOn, planWritten, withPlan}
+use Rattle.tables.specs.Tables.{shortTable, zeroed, workedOn, planWritten, withPlan}
 use Rattle.tree.specs.Tree.{routeUnder, withRoute, freeRoutes, rootOf, root, nodeSum, clashOf, isClear, nodeClear, barOne, barTwo, childWith, child, kidsFor, kids, tree}
 use Rattle.planner.specs.Answer.{searched, enough, planned}
 use Rattle.planner.specs.Stars.{asked, given, stars}

@@ -6,7 +6,7 @@ use Rattle.job.specs.Job.{Job, wrongCapacity}
 use Rattle.job.specs.Told.{Told, bare, counted}
 use Rattle.job.specs.Verdict.{judgeWith, verdictTold, ifAccepted}
 use Rattle.search.specs.Search.{Outcome, done, full}
-use Rattle.planner.specs.Tables.{Tables, shortTable, workedOn, withPlan}
+use Rattle.tables.specs.Tables.{Tables, shortTable, workedOn, withPlan}
 use Rattle.tree.specs.Tree.{Node, nodeSum, tree}
 use Rattle.planner.specs.declared.Answer.{Answer}
 use Rattle.planner.specs.declared.Answer.the-variants.{Plan, Refused, Short, NoPlan, Full}

@@ -1,4 +1,3 @@
 pub mod Answer
 pub mod Promises
 pub mod Stars
-pub mod Tables

@@ -5,7 +5,7 @@ use mathlib.Core.Path.{_≡_}
 use Rattle.job.specs.Job.{Job}
 use Rattle.tree.specs.Plan.{Routes}
 use Rattle.tree.specs.Promises.{LeastPlan, NoneExists, Need}
-use Rattle.planner.specs.Tables.{Tables, planWritten}
+use Rattle.tables.specs.Tables.{Tables, planWritten}
 use Rattle.planner.specs.declared.Answer.{Answer}
 use Rattle.planner.specs.declared.Answer.the-variants.{Plan, Refused, Short, NoPlan, Full}
 

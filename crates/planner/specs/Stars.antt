@@ -8,7 +8,7 @@ use Rattle.hall.specs.Hall.{Hall, size, openByte}
 use Rattle.job.specs.Job.{Job, planLength}
 use Rattle.job.specs.Told.{Told, counted}
 use Rattle.tree.specs.Plan.{Routes}
-use Rattle.planner.specs.Tables.{Tables, columnsLength, plansLength, layersLength}
+use Rattle.tables.specs.Tables.{Tables, columnsLength, plansLength, layersLength}
 use Rattle.planner.specs.Answer.{Result, planned, answerTold}
 
 pub record Star : Type 0 where
