@@ -1,10 +1,10 @@
 -- Document 01, 'Routes, costs, meetings': a route, its lawfulness and its cost.
-use Prim.Native.Nat.{ℕ, zero, suc, _+_, _<_}
+use Prim.Native.Nat.{ℕ, zero, suc, _+_, _*_, _<_}
 use mathlib.Core.Path.{_≡_}
 use mathlib.Core.Bool.{Bool, true, false, _&&_}
 use mathlib.Core.List.{List, [], _∷_, List·Memᴰ}
 use lib.Dec.{T, eqb}
-use lib.ListN.{length, getD}
+use lib.ListN.{length, getD, take, drop}
 use Rattle.hall.specs.Hall.{isOpen}
 use Rattle.hall.specs.Moves.{mayFollow}
 use Rattle.job.specs.Job.{Job}
@@ -12,6 +12,10 @@ use Rattle.job.specs.Job.{Job}
 -- the cell of a route at a step
 abbrev pub cellOf : List ℕ → ℕ → ℕ
 cellOf r t = getD r t 0
+
+-- the route of carrier i in the bytes of a plan
+unfoldable pub routeIn : ℕ → List ℕ → ℕ → List ℕ
+routeIn h plan i = take (h + 1) (drop (i * (h + 1)) plan)
 
 -- 'A route gives one cell for each step 0 to H: the start at 0, the goal at H, one lawful move or stay between.'
 pub record Lawful (job : Job) (i : ℕ) (r : List ℕ) : Type 0 where

@@ -8,14 +8,12 @@ use lib.Dec.{eqb}
 use lib.ListN.{length, getD, take, drop}
 use Rattle.lists.specs.Lists.{range, only, each}
 use Rattle.job.specs.Job.{Job, planLength}
+use Rattle.routes.specs.Route.{routeIn}
 use Rattle.records.specs.Columns.{entry, parentAt, sumAt, chainOf}
 use Rattle.tree.specs.Plan.{Routes}
 use Rattle.tree.specs.Tree.{Node, nodeSum}
 
--- the route of carrier i in a stretch of m × (H + 1) bytes, and all of them
-unfoldable pub routeIn : ℕ → List ℕ → ℕ → List ℕ
-routeIn h stretch i = take (h + 1) (drop (i * (h + 1)) stretch)
-
+-- the routes in a stretch of m × (H + 1) bytes
 unfoldable pub routesIn : Job → List ℕ → Routes
 routesIn job stretch = map (routeIn (job .horizon) stretch) (range 0 (job .count))
 

@@ -1,0 +1,26 @@
+-- Demand 3: 'For an accepted job and lawful routes, the plan check passes them exactly when no pattern of holds, each carrier held
+-- at most k steps in all, ever brings two carriers into one cell or through each other, the time after the last step included.'
+-- 'Passing both is what demand 3 calls the plan check.'
+use Prim.Native.Nat.{ℕ, _≤_, _<_}
+use mathlib.Core.Path.{_≡_}
+use mathlib.Core.List.{List}
+use lib.ListN.{length}
+use Rattle.job.specs.Job.{Job, slipOf, planLength, planCell}
+use Rattle.routes.specs.Route.{Lawful, routeIn}
+use Rattle.routes.specs.Check.{routeVerdict, routeTold}
+use Rattle.clashes.specs.Check.{meetingVerdict, meetingTold}
+use Rattle.clashes.specs.Holds.{Survives}
+
+-- the bytes hold a lawful route for each carrier
+pub record LawfulRoutes (job : Job) (plan : List ℕ) : Type 0 where
+  pub long : planLength job ≤ length plan
+  pub lawful : (i : ℕ) → i < job .count → Lawful job i (routeIn (job .horizon) plan i)
+
+-- both checks say 0
+pub record Passes (job : Job) (plan : List ℕ) : Type 0 where
+  pub routes : routeTold (routeVerdict job plan) .number ≡ 0
+  pub meetings : meetingTold (meetingVerdict job plan) .number ≡ 0
+
+-- no pattern of holds ever brings two carriers together
+abbrev pub Safe : Job → List ℕ → Type 0
+Safe job plan = Survives (planCell job plan) (slipOf job) (job .horizon) (job .count)
