@@ -1,2 +1,4 @@
 pub mod Lists
 pub mod Reach
+pub mod RightHall
+pub mod Tests
