@@ -1,2 +1,3 @@
+pub mod Broken
 pub mod Promises
 pub mod Stars

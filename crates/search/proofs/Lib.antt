@@ -1,3 +1,4 @@
+pub mod From
 pub mod Goes
 pub mod Least
 pub mod Need
