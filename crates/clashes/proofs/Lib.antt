@@ -5,3 +5,7 @@ pub mod Tests
 pub mod Candidates
 pub mod Chosen
 pub mod First
+pub mod Compared
+pub mod Cursor
+pub mod Swaps
+pub mod Same

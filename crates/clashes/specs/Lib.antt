@@ -1,4 +1,5 @@
 pub mod Check
 pub mod Chosen
 pub mod Clash
+pub mod Find
 pub mod Holds

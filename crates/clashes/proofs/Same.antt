@@ -1,0 +1,60 @@
+-- Rule 5 reads the cells of m carriers up to the horizon and nothing else: where two plans have the same cells there, the same
+-- clash is chosen. Of each candidate the two tests tell the same facts.
+-- Assumes nothing.
+use Prim.Native.Nat.{ℕ, _+_, _≤_, _<_}
+use mathlib.Core.Path.{_≡_, refl, sym, ap, _∙_}
+use mathlib.Core.Bool.{Bool, true, false}
+use mathlib.Core.List.{List, [], _∷_}
+use native.Mathlib.Omega.{arith}
+use lib.Dec.{T}
+use Rattle.lists.specs.Lists.{firstOf, Every}
+use Rattle.clashes.specs.Chosen.{meets, swaps, happens, candidates, orClear, chosen}
+use Rattle.clashes.specs.declared.Clash.{Clash}
+use Rattle.clashes.specs.declared.Clash.the-variants.{Clear, Meeting, Swap}
+use Rattle.clashes.proofs.Compared.{same-test}
+use Rattle.clashes.proofs.Tests.{meets-tells, tells-meets, swaps-tells, tells-swaps}
+use Rattle.clashes.proofs.Candidates.{Listed, every-candidate}
+
+first-same : {A : Type 0} (p q : A → Bool) (xs : List A) → Every (λ x. p x ≡ q x) xs → firstOf p xs ≡ firstOf q xs
+unfolding firstOf Every
+first-same p q [] same = refl
+first-same p q (x ∷ xs) same =
+    (elim (q x) as (λ b. p x ≡ b → q x ≡ b → firstOf p (x ∷ xs) ≡ firstOf q (x ∷ xs))
+    [ true ↦ λ e e₁. rw (e, e₁, firstOf) | false ↦ λ e e₁. rw (e, e₁, firstOf) (first-same p q xs (same .1)) ]) (same .0) refl
+
+-- the cells of m carriers up to step h
+abbrev pub SameCells : (ℕ → ℕ → ℕ) → (ℕ → ℕ → ℕ) → ℕ → ℕ → Type 0
+SameCells at at' h m = (i t : ℕ) → i < m → t ≤ h → at i t ≡ at' i t
+
+module _ (slip : ℕ → ℕ) (h m i j t : ℕ) (im : i < m) (jm : j < m) where
+  meets-carried : (at at' : ℕ → ℕ → ℕ) → SameCells at at' h m → (d : ℕ) → T (meets at slip h i j t d) → T (meets at' slip h i j t d)
+  meets-carried at at' same d test =
+      let (m, less) = meets-tells at slip h i j t d test in
+      let e = sym (same i t im (omega arith)) ∙ m .same ∙ same j (t + d) jm (m .inside) in
+      tells-meets at' slip h i j t d (record { two = m .two; near = m .near; inside = m .inside; same = e }) less
+
+  swaps-carried : (at at' : ℕ → ℕ → ℕ) → SameCells at at' h m → T (swaps at slip h i j t) → T (swaps at' slip h i j t)
+  swaps-carried at at' same test =
+      let (s, less) = swaps-tells at slip h i j t test in
+      let e = sym (same i t im (omega arith)) ∙ s .there ∙ same j (t + 1) jm (s .inside) in
+      let e₁ = sym (same j t jm (omega arith)) ∙ s .back ∙ same i (t + 1) im (s .inside) in
+      tells-swaps at' slip h i j t (record { two = s .two; none-slips = s .none-slips; inside = s .inside; there = e; back = e₁ }) less
+
+module _ (at at' : ℕ → ℕ → ℕ) (slip : ℕ → ℕ) (most h m : ℕ) (same : SameCells at at' h m) where
+  happens-same : (c : Clash) → Listed m most h c → happens at slip h c ≡ happens at' slip h c
+  unfolding happens Listed
+  happens-same Clear listed = refl
+  happens-same (Meeting i j t d) listed =
+      same-test (meets at slip h i j t d) (meets at' slip h i j t d)
+      (meets-carried slip h m i j t (listed .0) (listed .1) at at' same d)
+      (meets-carried slip h m i j t (listed .0) (listed .1) at' at (λ i t im step. sym (same i t im step)) d)
+  happens-same (Swap i j t) listed =
+      same-test (swaps at slip h i j t) (swaps at' slip h i j t)
+      (swaps-carried slip h m i j t (listed .0) (listed .1) at at' same)
+      (swaps-carried slip h m i j t (listed .0) (listed .1) at' at (λ i t im step. sym (same i t im step)))
+
+  pub chosen-same : chosen at slip most h m ≡ chosen at' slip most h m
+  unfolding chosen
+  chosen-same =
+      ap orClear (first-same (happens at slip h) (happens at' slip h) (candidates m most h)
+      (every-candidate (λ c. happens at slip h c ≡ happens at' slip h c) m most h happens-same))
