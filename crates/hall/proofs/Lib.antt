@@ -1,4 +1,8 @@
+pub mod HallCode
 pub mod Lists
+pub mod MoveTable
+pub mod Passing
 pub mod Reach
 pub mod RightHall
+pub mod Settled
 pub mod Tests

@@ -1,9 +1,9 @@
 -- The tests of a hall as facts: a side that is not wrong is 1 to 16, bytes that are not wrong are width × height many. By the
 -- laws of the tests that they are made of. Assumes nothing.
-use Prim.Native.Nat.{ℕ, _≤_, _*_}
+use Prim.Native.Nat.{ℕ, _≤_}
 use native.Mathlib.Omega.{arith}
 use mathlib.Core.Path.{_≡_}
-use mathlib.Core.Bool.{Bool, false, not, _||_}
+use mathlib.Core.Bool.{false, not}
 use lib.Dec.{eqb, ltb}
 use lib.ListN.{length}
 use borrow.Author.Tests.{eqb-true, eqb-false, ltb-false}

@@ -1,8 +1,8 @@
 -- What an accepted job is: each check in turn did not refuse, so each test of checks 1 to 6 fails, and a test that fails is a
 -- fact. Assumes nothing.
-use Prim.Native.Nat.{ℕ, suc, _+_, _-_, _*_, _≤_, _<_}
+use Prim.Native.Nat.{ℕ, suc, _-_, _*_, _≤_, _<_}
 use native.Mathlib.Omega.{arith}
-use mathlib.Core.Path.{_≡_, refl, sym, subst, _∙_}
+use mathlib.Core.Path.{_≡_, refl, subst}
 use mathlib.Core.Logic.{_≢_}
 use mathlib.Core.Bool.{Bool, true, false, not, _||_}
 use mathlib.Core.List.{List, map, List·Memᴰ}
@@ -10,16 +10,16 @@ use mathlib.Core.Option.{Option, none, some}
 use lib.Dec.{T, eqb, ltb}
 use lib.ListN.{length}
 use borrow.Author.Tests.{eq-eqb, eqb-false, ltb-false}
-use Rattle.lists.specs.Lists.{range, each, firstOf}
-use Rattle.lists.proofs.Bools.{of-true, or-left, or-right, not-true, true-not, either}
+use Rattle.lists.specs.Lists.{range, firstOf}
+use Rattle.lists.proofs.Bools.{of-true, or-left, or-right}
 use Rattle.lists.proofs.Members.{has-range, has-map, has-each, FirstFact, first-fact}
-use Rattle.hall.specs.Hall.{Hall, isOpen, wrongGrid, wrongBytes}
+use Rattle.hall.specs.Hall.{isOpen, wrongGrid, wrongBytes}
 use Rattle.hall.proofs.Tests.{or-fails}
 use Rattle.hall.proofs.RightHall.{grid-right, bytes-right}
 use Rattle.job.specs.Job.{Job, Pair, wrongLimits, wrongCount, wrongEnds, firstWrong, share, pairs, firstShared}
 use Rattle.job.specs.Verdict.{refuseIf, endsVerdict, sharedVerdict, judgeWith, judge}
 use Rattle.job.specs.declared.Verdict.{Verdict}
-use Rattle.job.specs.declared.Verdict.the-variants.{Accepted, WrongGrid, WrongBytes, WrongLimits, WrongCount, WrongEnds, SharedEnds}
+use Rattle.job.specs.declared.Verdict.the-variants.{Accepted, WrongGrid, WrongBytes, WrongLimits, WrongCount}
 
 -- ---- one check that did not refuse
 
@@ -46,7 +46,7 @@ limits-right job e =
     let (k, h) = or-fails (ltb 4 (job .delay)) (ltb 63 (job .horizon)) e in
     (ltb-false 4 (job .delay) k, ltb-false 63 (job .horizon) h)
 
-count-right : (job : Job) → wrongCount job ≡ false → (1 ≤ job .count) × (job .count ≤ 8)
+pub count-right : (job : Job) → wrongCount job ≡ false → (1 ≤ job .count) × (job .count ≤ 8)
 unfolding wrongCount
 count-right job e =
     let (z, l) = or-fails (eqb (job .count) 0) (ltb 8 (job .count)) e in

@@ -1,3 +1,4 @@
+pub mod Found
 pub mod Job
 pub mod Team
 pub mod Told

@@ -1,4 +1,23 @@
 // What a job is and what makes one accepted: answers 1 to 6 of document 01.
+ghost use Prim.Native.Nat.{_≤_, _<_};
+ghost use mathlib.Core.Bool.{not, _||_};
+ghost use mathlib.Core.Path.{_≡_};
+ghost use lib.Dec.{eqb, ltb};
+ghost use Rattle.lists.specs.Lists.{firstOf};
+ghost use Rattle.hall.specs.Hall.{isOpen};
+ghost use Rattle.job.specs.Job.{wrongCapacity, firstWrong, share, firstShared};
+ghost use Rattle.job.specs.Team.{jobOf};
+ghost use Rattle.job.specs.Verdict.{endsVerdict, sharedVerdict, judgeWith};
+ghost use Rattle.job.specs.Found.{carriersOf, endFound, pairFound, pairsFrom};
+
+// 'the delay bound k (0 to 4), the horizon H (0 to 63) and the capacity N (1 to 1,024 records). There are 1 to 8 carriers.'
+const MOST_DELAY: usize = 4;
+
+const MOST_HORIZON: usize = 63;
+
+const MOST_RECORDS: usize = 1024;
+
+const MOST_CARRIERS: usize = 8;
 
 // The carriers by value: start and goal of each, and how many there are.
 pub struct Team {
@@ -16,4 +35,157 @@ pub enum Verdict {
     WrongCount,
     WrongEnds { carrier: usize },
     SharedEnds { carrier: usize, other: usize },
+}
+
+// Answer 3, of N: 'N is 0 or above 1,024'.
+pub fn wrong_capacity(n: usize) -> bool
+    ensures { λ r. ⌜ r ≡ wrongCapacity n ⌝ }
+{
+    n == 0 || MOST_RECORDS < n
+}
+
+// Answer 3, of k and H: 'k above 4, H above 63'.
+fn wrong_limits(k: usize, h: usize) -> bool
+    ensures { λ r. ⌜ r ≡ (ltb 4 k || ltb 63 h) ⌝ }
+{
+    MOST_DELAY < k || MOST_HORIZON < h
+}
+
+// Answer 4: 'no carrier, or more than 8'.
+fn wrong_count(count: usize) -> bool
+    ensures { λ r. ⌜ r ≡ (eqb count 0 || ltb 8 count) ⌝ }
+{
+    count == 0 || MOST_CARRIERS < count
+}
+
+// Answer 5, of one carrier: 'a start or goal is outside the grid or closed'.
+fn wrong_ends(hall: &[u8], width: usize, height: usize, start: usize, goal: usize) -> bool
+    requires { ⌜ (width ≤ 16) × (height ≤ 16) ⌝ }
+    ensures { λ r. ⌜ r ≡ (not (isOpen (record { width = width; height = height; bytes = now (hall .entry) }) start) || not (isOpen (record { width = width; height = height; bytes = now (hall .entry) }) goal)) ⌝ }
+{
+    !hall::is_open(hall, width, height, start) || !hall::is_open(hall, width, height, goal)
+}
+
+// The first carrier with a wrong end.
+enum Ends {
+    Right,
+    Wrong(usize),
+}
+
+fn first_wrong(hall: &[u8], width: usize, height: usize, team: Team) -> Ends
+    requires { ⌜ (width ≤ 16) × (height ≤ 16) × (team .count ≤ 8) ⌝ }
+    ensures { λ r. ⌜ endFound r ≡ firstWrong (jobOf width height (now (hall .entry)) team 0 0) ⌝ }
+{
+    let count = team.count;
+    let mut i = 0;
+    while i < count {
+        if wrong_ends(
+            hall,
+            width,
+            height,
+            team.starts[i] as usize,
+            team.goals[i] as usize,
+        ) {
+            return Ends::Wrong(i);
+        }
+        i += 1;
+    }
+    Ends::Right
+}
+
+// Answer 6, of two carriers: 'two carriers share a start, or share a goal'.
+fn shares(team: Team, i: usize, j: usize) -> bool
+    requires { ⌜ (i < 8) × (j < 8) ⌝ }
+    ensures { λ r. ⌜ r ≡ share (carriersOf team) (record { one = i; two = j }) ⌝ }
+{
+    team.starts[i] == team.starts[j] || team.goals[i] == team.goals[j]
+}
+
+// Two carriers that share a start or a goal.
+enum Shared {
+    Nobody,
+    Two(usize, usize),
+}
+
+// Carrier i and the first after it that shares with it.
+fn shared_with(team: Team, i: usize) -> Shared
+    requires { ⌜ (i < 8) × (team .count ≤ 8) ⌝ }
+    ensures { λ r. ⌜ pairFound r ≡ firstOf (share (carriersOf team)) (pairsFrom (team .count) i) ⌝ }
+{
+    let count = team.count;
+    let mut j = i + 1;
+    while j < count {
+        if shares(team, i, j) {
+            return Shared::Two(i, j);
+        }
+        j += 1;
+    }
+    Shared::Nobody
+}
+
+// 'least i, then least j, i < j'
+fn first_shared(team: Team) -> Shared
+    requires { ⌜ team .count ≤ 8 ⌝ }
+    ensures { λ r. ⌜ pairFound r ≡ firstShared (carriersOf team) ⌝ }
+{
+    let count = team.count;
+    let mut i = 0;
+    while i < count {
+        let found = shared_with(team, i);
+        match found {
+            Shared::Nobody => {}
+            Shared::Two(a, b) => return Shared::Two(a, b),
+        }
+        i += 1;
+    }
+    Shared::Nobody
+}
+
+// Answers 5 and 6.
+fn judge_ends(hall: &[u8], width: usize, height: usize, team: Team) -> Verdict
+    requires { ⌜ (width ≤ 16) × (height ≤ 16) × (team .count ≤ 8) ⌝ }
+    ensures { λ r. ⌜ r ≡ endsVerdict (firstWrong (jobOf width height (now (hall .entry)) team 0 0)) (sharedVerdict (firstShared (carriersOf team))) ⌝ }
+{
+    let ends = first_wrong(hall, width, height, team);
+    if let Ends::Wrong(i) = ends {
+        return Verdict::WrongEnds { carrier: i };
+    }
+    let shared = first_shared(team);
+    match shared {
+        Shared::Nobody => Verdict::Accepted,
+        Shared::Two(i, j) => Verdict::SharedEnds {
+            carrier: i,
+            other: j,
+        },
+    }
+}
+
+// The checks 1 to 6, 'the lowest number is given'. The planner's third looks at N too: `wrong_n` is what it says of N.
+pub fn judge_job(
+    hall: &[u8],
+    width: usize,
+    height: usize,
+    team: Team,
+    k: usize,
+    h: usize,
+    wrong_n: bool,
+) -> Verdict
+    ensures { λ r. ⌜ r ≡ judgeWith «wrong_n» (jobOf width height (now (hall .entry)) team k h) ⌝ }
+{
+    if hall::wrong_grid(width, height) {
+        return Verdict::WrongGrid;
+    }
+    if hall::wrong_bytes(hall, width, height) {
+        return Verdict::WrongBytes;
+    }
+    if wrong_limits(k, h) {
+        return Verdict::WrongLimits;
+    }
+    if wrong_n {
+        return Verdict::WrongLimits;
+    }
+    if wrong_count(team.count) {
+        return Verdict::WrongCount;
+    }
+    judge_ends(hall, width, height, team)
 }

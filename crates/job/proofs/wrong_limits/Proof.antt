@@ -1,0 +1,13 @@
+-- `job::wrong_limits` meets its contract: the first test decides, or else the second. Assumes nothing.
+use borrow.Author.Tests.{lt-ltb, le-ltb}
+use Rattle.job.proofs.wrong_limits.Statement.{statement}
+use Rattle.job.proofs.wrong_limits.Tie as tie
+
+returns : tie.Need-returns
+returns c = simp (lt-ltb _ _ (c .if1 .taken))
+
+returns-2 : tie.Need-returns-2
+returns-2 c = simp (le-ltb _ _ (c .if1 .left))
+
+pub wrong-limits-spec : {M : Type 1} → statement M
+wrong-limits-spec = tie.close (tie.spec returns returns-2)
