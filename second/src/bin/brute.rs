@@ -1,0 +1,340 @@
+//! `brute SEED COUNT` tries COUNT random small jobs: the planner against brute
+//! force (a) and against the rules taken word by word, routes under random bars
+//! against the list of all routes, and the two plan checks against brute force
+//! (b) and the list of all walks. It prints counts, and stops at the first
+//! difference with the job printed.
+
+use std::collections::BTreeMap;
+use std::process::ExitCode;
+
+use second::bar::{Bar, Barred, CarrierBar};
+use second::brute::{holds, least_sum, loops, tree_by_words, walks};
+use second::check;
+use second::floor::Floor;
+use second::generate;
+use second::job::{Job, MOST_RECORDS};
+use second::planner::{self, PlanAnswer};
+use second::random::Random;
+use second::route;
+use second::tree;
+
+/// Records for the jobs that need more than a job's greatest N.
+const MANY_RECORDS: usize = 20_000;
+
+type Counts = BTreeMap<&'static str, usize>;
+type Trial = Result<(), String>;
+
+fn main() -> ExitCode {
+    let arguments: Vec<String> = std::env::args().skip(1).collect();
+    let Some((seed, count)) = request(&arguments) else {
+        eprintln!("usage: brute SEED COUNT");
+        return ExitCode::from(2);
+    };
+    let mut random = Random::new(seed);
+    let mut counts = Counts::new();
+    for number in 0..count {
+        let job = generate::small(&mut random);
+        if let Err(difference) = try_job(&mut random, &job, &mut counts) {
+            println!("job {number} of seed {seed}: {difference}\n{job:?}");
+            return ExitCode::FAILURE;
+        }
+    }
+    println!("seed {seed}, {count} jobs, no difference");
+    for (what, count) in &counts {
+        println!("{what}: {count}");
+    }
+    ExitCode::SUCCESS
+}
+
+fn request(arguments: &[String]) -> Option<(u64, usize)> {
+    let [seed, count] = arguments else {
+        return None;
+    };
+    Some((seed.parse().ok()?, count.parse().ok()?))
+}
+
+fn try_job(random: &mut Random, job: &Job, counts: &mut Counts) -> Trial {
+    let answer = planner::plan(job, MOST_RECORDS);
+    try_tree(random, job, &answer, counts)?;
+    try_least_sum(job, &answer, counts)?;
+    try_bars(random, job, counts)?;
+    for (kind, plan) in plans(random, job, &answer) {
+        try_checks(job, &plan, counts).map_err(|why| format!("{kind}: {why}"))?;
+    }
+    Ok(())
+}
+
+fn same<T: PartialEq + std::fmt::Debug>(what: &str, one: T, two: T) -> Trial {
+    if one == two {
+        return Ok(());
+    }
+    Err(format!("{what}: {one:?}, by brute force {two:?}"))
+}
+
+fn count(counts: &mut Counts, what: &'static str) {
+    *counts.entry(what).or_default() += 1;
+}
+
+/// The planner's answer against the least sum of all plans. Where it is 9 the
+/// tree is grown further than a job may ask for.
+fn try_least_sum(job: &Job, answer: &PlanAnswer, counts: &mut Counts) -> Trial {
+    if answer.number == 9 {
+        count(counts, "planner: needs more than 1,024 records");
+        return compare_sum(job, &tree::search(job, MANY_RECORDS).into(), counts);
+    }
+    compare_sum(job, answer, counts)
+}
+
+fn compare_sum(job: &Job, answer: &PlanAnswer, counts: &mut Counts) -> Trial {
+    let least = least_sum::least_sum(job);
+    match answer.number {
+        0 => {
+            count(counts, "planner: answer 0");
+            same("least sum", Some(answer.sum), least)?;
+            try_plan(job, answer)
+        }
+        8 => {
+            count(counts, "planner: answer 8");
+            same("no plan", None, least)
+        }
+        _ => {
+            count(counts, "planner: needs more than 20,000, not compared");
+            Ok(())
+        }
+    }
+}
+
+/// The plan is made of lawful routes that agree, and its sum is theirs.
+fn try_plan(job: &Job, answer: &PlanAnswer) -> Trial {
+    let mut sum = 0;
+    for (i, (&carrier, route)) in job.carriers.iter().zip(&answer.routes).enumerate() {
+        let lawful = walks::routes(job, carrier).contains(route);
+        same("a route of the plan is lawful", lawful, true)?;
+        sum += walks::cost(route, carrier.goal);
+        let others = &answer.routes[..i];
+        let agree = others.iter().all(|o| least_sum::agree(o, route, job.k));
+        same("the routes of the plan agree", agree, true)?;
+    }
+    same("sum of the plan", answer.sum, sum)
+}
+
+/// The planner against the rules taken word by word: number, sum, records and
+/// routes, with several capacities; at the need of records and one below it
+/// among them.
+fn try_tree(random: &mut Random, job: &Job, answer: &PlanAnswer, counts: &mut Counts) -> Trial {
+    let need = answer.records;
+    let any = random.between(1, 20);
+    for capacity in [need.saturating_sub(1), need, any] {
+        if !(1..=MOST_RECORDS).contains(&capacity) {
+            continue;
+        }
+        let told = planner::plan(job, capacity);
+        count(
+            counts,
+            match told.number {
+                9 => "tree by words: 9",
+                8 => "tree by words: 8",
+                _ => "tree by words: 0",
+            },
+        );
+        let numbers = (told.number, told.sum, told.records, told.routes);
+        let wanted = tree_by_words::search(job, capacity);
+        same("the tree", numbers, wanted).map_err(|why| format!("N {capacity}: {why}"))?;
+    }
+    Ok(())
+}
+
+/// Routes under random bars against the list of all routes.
+fn try_bars(random: &mut Random, job: &Job, counts: &mut Counts) -> Trial {
+    let floor = Floor::new(job);
+    for (i, &carrier) in job.carriers.iter().enumerate() {
+        let bars: Vec<Bar> = (0..random.below(7)).map(|_| bar(random, job)).collect();
+        let own = bars.iter().map(|&bar| CarrierBar { carrier: i, bar });
+        let barred = Barred::of(i, &own.collect::<Vec<_>>());
+        let found = route::best_route(&floor, carrier, job.horizon, &barred);
+        let ranked = walks::ranked_routes(job, carrier);
+        let wanted = walks::first_kept(&ranked, &bars).cloned();
+        count(
+            counts,
+            match wanted {
+                Some(_) => "bars: a route",
+                None => "bars: no route",
+            },
+        );
+        same("route under bars", found, wanted).map_err(|why| format!("{bars:?}: {why}"))?;
+    }
+    Ok(())
+}
+
+/// A random bar, sometimes on a goal and late, sometimes past H. A crossing
+/// goes "from one cell to another": where the way on is a stay, the cell itself
+/// is barred.
+fn bar(random: &mut Random, job: &Job) -> Bar {
+    let step = random.below(job.horizon + 1);
+    let ends = job.carriers[random.below(job.carriers.len())];
+    let mut ways = walks::walks(job, random.pick(&[ends.start, ends.goal]), 3);
+    let way = ways.swap_remove(random.below(ways.len()));
+    if random.chance(40) && way[2] != way[3] {
+        return Bar::Crossing {
+            from: way[2],
+            to: way[3],
+            step,
+        };
+    }
+    Bar::Standing {
+        cell: random.pick(&[way[3], ends.goal]),
+        first: step,
+        last: step + random.below(3),
+    }
+}
+
+/// Plans of every kind for this job, as plan bytes.
+fn plans(random: &mut Random, job: &Job, answer: &PlanAnswer) -> Vec<(&'static str, Vec<Vec<u8>>)> {
+    let mut plans = vec![
+        ("random routes", random_routes(random, job)),
+        ("random walks", random_walks(random, job)),
+        ("any bytes", any_bytes(random, job)),
+    ];
+    if let Some(alone) = routes_alone(job) {
+        plans.push(("each alone", alone));
+    }
+    if answer.number == 0 {
+        plans.push(("the plan", answer.routes.clone()));
+    }
+    let damaged = plans.iter().map(|(_, plan)| damaged(random, plan));
+    let damaged: Vec<_> = damaged.map(|plan| ("damaged", plan)).collect();
+    plans.extend(damaged);
+    plans
+}
+
+/// A lawful route at random for each carrier that has one.
+fn random_routes(random: &mut Random, job: &Job) -> Vec<Vec<u8>> {
+    let carriers = job.carriers.iter();
+    carriers
+        .map(|&carrier| {
+            let mut routes = walks::routes(job, carrier);
+            if routes.is_empty() {
+                routes = walks::walks(job, carrier.start, job.horizon);
+            }
+            routes.swap_remove(random.below(routes.len()))
+        })
+        .collect()
+}
+
+fn random_walks(random: &mut Random, job: &Job) -> Vec<Vec<u8>> {
+    let carriers = job.carriers.iter();
+    carriers
+        .map(|carrier| {
+            let mut walks = walks::walks(job, carrier.start, job.horizon);
+            walks.swap_remove(random.below(walks.len()))
+        })
+        .collect()
+}
+
+/// Few different bytes, so that they meet and exchange often.
+fn any_bytes(random: &mut Random, job: &Job) -> Vec<Vec<u8>> {
+    let bytes = [0, 1, 2, 3, 7, 9, 200, 255];
+    let different = random.between(2, bytes.len());
+    let carriers = job.carriers.iter();
+    carriers
+        .map(|_| {
+            let steps = 0..=job.horizon;
+            steps.map(|_| random.pick(&bytes[..different])).collect()
+        })
+        .collect()
+}
+
+fn routes_alone(job: &Job) -> Option<Vec<Vec<u8>>> {
+    let carriers = job.carriers.iter();
+    carriers
+        .map(|&carrier| walks::ranked_routes(job, carrier).into_iter().next())
+        .collect()
+}
+
+/// One byte changed, or two bytes exchanged.
+fn damaged(random: &mut Random, plan: &[Vec<u8>]) -> Vec<Vec<u8>> {
+    let mut plan = plan.to_vec();
+    let steps = plan[0].len();
+    let (i, j) = (random.below(plan.len()), random.below(plan.len()));
+    let (s, t) = (random.below(steps), random.below(steps));
+    if random.chance(50) {
+        plan[i][s] = random.pick(&[0, 1, 2, 3, 4, 5, 8, 9, 255]);
+    } else {
+        (plan[i][s], plan[j][t]) = (plan[j][t], plan[i][s]);
+    }
+    plan
+}
+
+/// Both checks on these routes, with bytes behind them that are not read.
+fn try_checks(job: &Job, routes: &[Vec<u8>], counts: &mut Counts) -> Trial {
+    let mut plan = routes.concat();
+    try_route_check(job, routes, &plan, counts)?;
+    try_meeting_check(job, routes, &plan, counts)?;
+    let told = (
+        check::route_check(job, &plan),
+        check::meeting_check(job, &plan),
+    );
+    plan.extend([0, 255]);
+    let longer = (
+        check::route_check(job, &plan),
+        check::meeting_check(job, &plan),
+    );
+    same("bytes behind the plan", longer, told)?;
+    plan.truncate(routes.concat().len() - 1);
+    let short = (
+        check::route_check(job, &plan).number,
+        check::meeting_check(job, &plan).number,
+    );
+    same("a plan too short", short, (7, 7))
+}
+
+/// The route check against the list of all walks.
+fn try_route_check(job: &Job, routes: &[Vec<u8>], plan: &[u8], counts: &mut Counts) -> Trial {
+    let told = check::route_check(job, plan);
+    let carriers = job.carriers.iter().zip(routes).enumerate();
+    let wanted = carriers
+        .filter_map(|(i, (&carrier, route))| {
+            Some((i, walks::first_wrong_step(job, carrier, route)?))
+        })
+        .next();
+    count(
+        counts,
+        match wanted {
+            Some(_) => "route check: 21",
+            None => "route check: 0",
+        },
+    );
+    let numbers = (told.number, told.carrier, told.step);
+    let wanted = wanted.map_or((0, 0, 0), |(i, step)| (21, i, step));
+    same("route check", numbers, wanted).map_err(|why| format!("{routes:?}: {why}"))
+}
+
+/// The meeting check against all patterns of holds and against rule 5's words.
+fn try_meeting_check(job: &Job, routes: &[Vec<u8>], plan: &[u8], counts: &mut Counts) -> Trial {
+    let told = check::meeting_check(job, plan);
+    let routes: Vec<&[u8]> = routes.iter().map(Vec::as_slice).collect();
+    let collides = holds::some_pattern_collides(&routes, job.k);
+    let lawful = check::route_check(job, plan).number == 0;
+    count(
+        counts,
+        match (lawful, collides) {
+            (true, true) => "holds: lawful routes, some pattern collides",
+            (true, false) => "holds: lawful routes, no pattern collides",
+            (false, true) => "holds: other bytes, some pattern collides",
+            (false, false) => "holds: other bytes, no pattern collides",
+        },
+    );
+    same("holds", told.number == 22, collides).map_err(|why| format!("{routes:?}: {why}"))?;
+    let wanted = loops::first_meeting(&routes, job.k);
+    let numbers = (told.number == 22).then_some((
+        told.carrier,
+        told.other,
+        told.step,
+        told.distance,
+        told.swap,
+    ));
+    if told.swap {
+        count(counts, "meeting check: told a swap");
+    }
+    same("meeting told", numbers, wanted).map_err(|why| format!("{routes:?}: {why}"))
+}

@@ -1,0 +1,9 @@
+//! Slow answers for small jobs, by trying everything. Nothing here uses the
+//! floor, route, meeting, tree or check modules: only the job and the words of a
+//! bar.
+
+pub mod holds;
+pub mod least_sum;
+pub mod loops;
+pub mod tree_by_words;
+pub mod walks;

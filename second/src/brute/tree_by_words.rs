@@ -1,0 +1,115 @@
+//! Rules 1 to 7 once more, word by word and slowly: each carrier's routes are
+//! listed in rule 2's order once, the bars that bind a node are found by going
+//! up its ancestors, and the open node to be taken by looking at all nodes.
+
+use crate::bar::Bar;
+use crate::brute::{loops, walks};
+use crate::job::Job;
+
+/// The answer's number, sum, records and routes (0 and none where untold).
+pub type Told = (u8, usize, usize, Vec<Vec<u8>>);
+
+struct Node {
+    parent: Option<usize>,
+    bar: Option<(usize, Bar)>,
+    routes: Vec<Vec<u8>>,
+    open: bool,
+}
+
+/// The tree of a job that passed checks 1 to 6, with N from 1.
+pub fn search(job: &Job, capacity: usize) -> Told {
+    let carriers = job.carriers.iter();
+    let ranked: Vec<_> = carriers.map(|c| walks::ranked_routes(job, *c)).collect();
+    if ranked.iter().any(Vec::is_empty) {
+        return (8, 0, 0, vec![]);
+    }
+    let mut nodes = vec![Node {
+        parent: None,
+        bar: None,
+        routes: ranked.iter().map(|routes| routes[0].clone()).collect(),
+        open: true,
+    }];
+    while let Some(number) = taken(job, &nodes) {
+        nodes[number].open = false;
+        let Some(bars) = bars_for(job, &nodes[number].routes) else {
+            let routes = nodes[number].routes.clone();
+            return (0, sum(job, &nodes[number]), nodes.len(), routes);
+        };
+        for bar in bars {
+            let Some(child) = child(&nodes, number, bar, &ranked) else {
+                continue;
+            };
+            if nodes.len() == capacity {
+                return (9, 0, capacity, vec![]);
+            }
+            nodes.push(child);
+        }
+    }
+    (8, 0, nodes.len(), vec![])
+}
+
+/// Rules 5 and 6: the bars of child one and child two, each with its carrier.
+fn bars_for(job: &Job, routes: &[Vec<u8>]) -> Option<[(usize, Bar); 2]> {
+    let lent: Vec<&[u8]> = routes.iter().map(Vec::as_slice).collect();
+    let (i, j, t, _, swap) = loops::first_meeting(&lent, job.k)?;
+    let crossing = |carrier: usize| Bar::Crossing {
+        from: routes[carrier][t],
+        to: routes[carrier][t + 1],
+        step: t,
+    };
+    let standing = Bar::Standing {
+        cell: routes[i][t],
+        first: t,
+        last: t + job.k,
+    };
+    Some(if swap {
+        [(i, crossing(i)), (j, crossing(j))]
+    } else {
+        [(i, standing), (j, standing)]
+    })
+}
+
+/// Rule 7: the child with this bar, if the barred carrier has a route.
+fn child(
+    nodes: &[Node],
+    parent: usize,
+    (carrier, bar): (usize, Bar),
+    ranked: &[Vec<Vec<u8>>],
+) -> Option<Node> {
+    let mut bars = binding(nodes, parent, carrier);
+    bars.push(bar);
+    let mut routes = nodes[parent].routes.clone();
+    routes[carrier] = walks::first_kept(&ranked[carrier], &bars)?.clone();
+    Some(Node {
+        parent: Some(parent),
+        bar: Some((carrier, bar)),
+        routes,
+        open: true,
+    })
+}
+
+/// Rule 4: "the open node of least sum, then of least number".
+fn taken(job: &Job, nodes: &[Node]) -> Option<usize> {
+    (0..nodes.len())
+        .filter(|&number| nodes[number].open)
+        .min_by_key(|&number| (sum(job, &nodes[number]), number))
+}
+
+fn sum(job: &Job, node: &Node) -> usize {
+    let routes = node.routes.iter().zip(&job.carriers);
+    routes
+        .map(|(route, carrier)| walks::cost(route, carrier.goal))
+        .sum()
+}
+
+/// Rule 1: the carrier's bars in "that node's record or in the record of one of
+/// its ancestors".
+fn binding(nodes: &[Node], number: usize, carrier: usize) -> Vec<Bar> {
+    let node = &nodes[number];
+    let mut bars = match node.parent {
+        Some(parent) => binding(nodes, parent, carrier),
+        None => vec![],
+    };
+    bars.extend(node.bar.filter(|own| own.0 == carrier).map(|own| own.1));
+    bars
+}

@@ -1,0 +1,211 @@
+//! Random jobs that pass checks 1 to 6.
+
+use crate::bar::Barred;
+use crate::floor::Floor;
+use crate::job::{CLOSED, Carrier, Job, MOST_CARRIERS, MOST_HORIZON, MOST_RECORDS, OPEN};
+use crate::planner;
+use crate::random::Random;
+use crate::route;
+
+/// A job of any kind: halls of every shape, 1 to 8 carriers, k 0 to 4, H 0 to
+/// 63 but mostly just long enough. Most have a route for every carrier.
+pub fn job(random: &mut Random) -> Job {
+    let connected = random.chance(90);
+    loop {
+        let (width, height) = any_shape(random);
+        let density = random.pick(&[0, 0, 10, 20, 30, 45]);
+        let carriers = random.pick(&[1, 2, 2, 3, 3, 4, 4, 5, 6, 7, 8]);
+        let job = job_in(random, (width, height), density, carriers);
+        if !connected || longest_alone(&job).is_some() {
+            return job;
+        }
+    }
+}
+
+/// A job in a small hall with many carriers: many meetings, much need of
+/// records.
+pub fn crowded(random: &mut Random) -> Job {
+    loop {
+        let shape = (random.between(2, 6), random.between(2, 6));
+        let density = random.pick(&[0, 0, 10, 20]);
+        let carriers = random.between(3, MOST_CARRIERS);
+        let job = job_in(random, shape, density, carriers);
+        if longest_alone(&job).is_some() {
+            return job;
+        }
+    }
+}
+
+/// A job small enough for brute force: 2 or 3 carriers, at most 9 cells, H at
+/// most 5, k 0 to 2.
+pub fn small(random: &mut Random) -> Job {
+    let shapes = [
+        (3, 3),
+        (3, 3),
+        (3, 3),
+        (4, 2),
+        (2, 4),
+        (3, 2),
+        (2, 3),
+        (2, 2),
+        (5, 1),
+        (1, 6),
+        (9, 1),
+    ];
+    loop {
+        let shape = random.pick(&shapes);
+        let density = random.pick(&[0, 0, 0, 15, 30]);
+        let carriers = random.between(2, 3);
+        let mut job = job_in(random, shape, density, carriers);
+        job.k = random.below(3);
+        job.horizon = random.pick(&[0, 1, 2, 3, 4, 4, 5, 5, 5]);
+        if job.carriers.len() >= 2 {
+            return job;
+        }
+    }
+}
+
+/// A capacity at, just below or just above the job's need of records, found by
+/// a run with the greatest N; that N itself, or nearly, if the need is greater.
+pub fn capacity_near_need(random: &mut Random, job: &Job) -> usize {
+    let need = planner::plan(job, MOST_RECORDS).records;
+    let near = random.between(need.saturating_sub(2), need + 1);
+    near.clamp(1, MOST_RECORDS)
+}
+
+/// A crowded job whose need of records lies near `capacity`: the nearest found
+/// in a few tries.
+pub fn needing_about(random: &mut Random, capacity: usize) -> Job {
+    const TRIES: usize = 40;
+    let reach = capacity + capacity / 4;
+    let tried = (0..TRIES).map(|_| {
+        let job = crowded(random);
+        let need = planner::plan(&job, reach).records;
+        (need.abs_diff(capacity), job)
+    });
+    let nearest = tried.min_by_key(|(off, _)| *off);
+    nearest.expect("at least one try").1
+}
+
+fn any_shape(random: &mut Random) -> (usize, usize) {
+    match random.below(12) {
+        0 => (random.between(1, 16), 1),
+        1 => (1, random.between(1, 16)),
+        2 => (random.between(1, 16), random.between(2, 3)),
+        3 => (random.between(2, 3), random.between(1, 16)),
+        4..=7 => (random.between(2, 6), random.between(2, 6)),
+        8..=10 => (random.between(1, 16), random.between(1, 16)),
+        _ => (16, 16),
+    }
+}
+
+/// A job in a hall of this shape with this share of closed cells (in 100) and
+/// this many carriers, or as many as there are open cells.
+fn job_in(
+    random: &mut Random,
+    (width, height): (usize, usize),
+    density: usize,
+    carriers: usize,
+) -> Job {
+    let hall = hall(random, width * height, density);
+    let mut job = Job {
+        width,
+        height,
+        carriers: carriers_on(random, &hall, carriers),
+        hall,
+        k: random.pick(&[0, 0, 0, 1, 1, 1, 2, 2, 3, 4]),
+        horizon: MOST_HORIZON,
+    };
+    job.horizon = horizon_for(random, &job);
+    job
+}
+
+/// Hall bytes with at least one open cell.
+fn hall(random: &mut Random, cells: usize, density: usize) -> Vec<u8> {
+    let mut hall: Vec<u8> = (0..cells)
+        .map(|_| if random.chance(density) { CLOSED } else { OPEN })
+        .collect();
+    let open = random.below(cells);
+    hall[open] = OPEN;
+    hall
+}
+
+/// Carriers with different starts and different goals, some of them parked
+/// (start = goal).
+fn carriers_on(random: &mut Random, hall: &[u8], carriers: usize) -> Vec<Carrier> {
+    let mut starts: Vec<u8> = (0..=u8::MAX)
+        .zip(hall)
+        .filter(|(_, byte)| **byte == OPEN)
+        .map(|(cell, _)| cell)
+        .collect();
+    let mut goals = starts.clone();
+    random.shuffle(&mut starts);
+    random.shuffle(&mut goals);
+    for i in 0..carriers.min(starts.len()) {
+        if random.chance(8) {
+            park(&starts, &mut goals, i);
+        }
+    }
+    let ends = starts.into_iter().zip(goals).take(carriers);
+    ends.map(|(start, goal)| Carrier { start, goal }).collect()
+}
+
+/// Gives carrier i its start as its goal, and its goal to the one that had that.
+fn park(starts: &[u8], goals: &mut [u8], i: usize) {
+    let had = goals.iter().position(|goal| *goal == starts[i]);
+    goals.swap(i, had.expect("each open cell is a goal of the list"));
+}
+
+/// A horizon for the job: mostly just long enough.
+fn horizon_for(random: &mut Random, job: &Job) -> usize {
+    let Some(longest) = longest_alone(job) else {
+        return random.between(0, MOST_HORIZON);
+    };
+    let horizon = match random.below(25) {
+        0 => 0,
+        1 => MOST_HORIZON,
+        2 => random.between(0, MOST_HORIZON),
+        3 => longest.saturating_sub(1),
+        4 | 5 => longest,
+        _ => longest + random.between(1, 3 + 2 * job.k),
+    };
+    horizon.min(MOST_HORIZON)
+}
+
+/// The greatest cost of a carrier that is alone in the hall, if each has a
+/// route within the greatest horizon.
+fn longest_alone(job: &Job) -> Option<usize> {
+    let floor = Floor::new(job);
+    let costs = job.carriers.iter().map(|&carrier| {
+        let route = route::best_route(&floor, carrier, MOST_HORIZON, &Barred::default())?;
+        Some(route::cost(&route, carrier.goal))
+    });
+    costs.collect::<Option<Vec<_>>>()?.into_iter().max()
+}
+
+#[cfg(test)]
+mod tests {
+    use super::*;
+
+    #[test]
+    fn jobs_pass_checks_1_to_6() {
+        let mut random = Random::new(7);
+        for _ in 0..300 {
+            assert_eq!(job(&mut random).refusal(None), None);
+            assert_eq!(crowded(&mut random).refusal(None), None);
+            assert_eq!(small(&mut random).refusal(None), None);
+        }
+    }
+
+    #[test]
+    fn the_capacity_lies_around_the_need() {
+        let mut random = Random::new(8);
+        let mut answers = [0; 10];
+        for _ in 0..25 {
+            let job = crowded(&mut random);
+            let capacity = capacity_near_need(&mut random, &job);
+            answers[usize::from(planner::plan(&job, capacity).number)] += 1;
+        }
+        assert!(answers[0] > 2 && answers[9] > 2, "{answers:?}");
+    }
+}

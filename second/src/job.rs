@@ -1,0 +1,249 @@
+//! The job: "a hall, a list of carriers (each a record of start cell and goal
+//! cell, numbered from 0), the delay bound k (0 to 4), the horizon H (0 to 63)
+//! and the capacity N". N is kept apart, since the two plan checks have none.
+
+/// The hall byte of an open cell ('.').
+pub const OPEN: u8 = 46;
+/// The hall byte of a closed cell ('#').
+pub const CLOSED: u8 = 35;
+/// "A hall is a grid of 1 to 16 columns (width) by 1 to 16 rows (height)."
+pub const MOST_COLUMNS_OR_ROWS: usize = 16;
+/// "the delay bound k (0 to 4)".
+pub const MOST_DELAY: usize = 4;
+/// "the horizon H (0 to 63)".
+pub const MOST_HORIZON: usize = 63;
+/// "the capacity N (1 to 1,024 records)".
+pub const MOST_RECORDS: usize = 1024;
+/// "There are 1 to 8 carriers."
+pub const MOST_CARRIERS: usize = 8;
+
+/// "each a record of start cell and goal cell". A cell's number is one byte,
+/// as it is in a book and in plan bytes.
+#[derive(Clone, Copy, Debug, PartialEq, Eq)]
+pub struct Carrier {
+    pub start: u8,
+    pub goal: u8,
+}
+
+/// A job without its capacity N.
+#[derive(Clone, Debug, PartialEq, Eq)]
+pub struct Job {
+    pub width: usize,
+    pub height: usize,
+    pub hall: Vec<u8>,
+    pub carriers: Vec<Carrier>,
+    pub k: usize,
+    pub horizon: usize,
+}
+
+/// What checks 1 to 6 refuse, with what is "also told".
+#[derive(Clone, Copy, Debug, PartialEq, Eq)]
+pub enum Refusal {
+    /// 1: "width or height is 0 or above 16".
+    Size,
+    /// 2: "the hall hasn't width × height bytes, or a byte is neither 46 nor 35".
+    Hall,
+    /// 3: "k above 4, H above 63, or N is 0 or above 1,024".
+    Limits,
+    /// 4: "no carrier, or more than 8".
+    Count,
+    /// 5: "a start or goal is outside the grid or closed"; "first such carrier".
+    Cell { carrier: usize },
+    /// 6: "two carriers share a start, or share a goal"; "least i, then least
+    /// j, i < j".
+    Shared { carrier: usize, other: usize },
+}
+
+impl Refusal {
+    /// The number given back.
+    pub fn number(self) -> u8 {
+        match self {
+            Refusal::Size => 1,
+            Refusal::Hall => 2,
+            Refusal::Limits => 3,
+            Refusal::Count => 4,
+            Refusal::Cell { .. } => 5,
+            Refusal::Shared { .. } => 6,
+        }
+    }
+
+    /// The carrier told. "Untold numbers are 0."
+    pub fn carrier(self) -> usize {
+        match self {
+            Refusal::Cell { carrier } | Refusal::Shared { carrier, .. } => carrier,
+            _ => 0,
+        }
+    }
+
+    /// The other carrier told. "Untold numbers are 0."
+    pub fn other(self) -> usize {
+        match self {
+            Refusal::Shared { other, .. } => other,
+            _ => 0,
+        }
+    }
+}
+
+impl Job {
+    /// Checks 1 to 6. "If several apply, the lowest number is given." The two
+    /// plan checks give no capacity ("no N there").
+    pub fn refusal(&self, capacity: Option<usize>) -> Option<Refusal> {
+        self.wrong_size()
+            .or_else(|| self.wrong_hall())
+            .or_else(|| self.wrong_limits(capacity))
+            .or_else(|| self.wrong_count())
+            .or_else(|| self.wrong_cell())
+            .or_else(|| self.shared_cell())
+    }
+
+    /// Whether the cell is inside the grid and open.
+    pub fn is_open(&self, cell: u8) -> bool {
+        self.hall.get(usize::from(cell)) == Some(&OPEN)
+    }
+
+    fn wrong_size(&self) -> Option<Refusal> {
+        let lawful = 1..=MOST_COLUMNS_OR_ROWS;
+        let right = lawful.contains(&self.width) && lawful.contains(&self.height);
+        (!right).then_some(Refusal::Size)
+    }
+
+    fn wrong_hall(&self) -> Option<Refusal> {
+        let right = self.hall.len() == self.width * self.height
+            && self.hall.iter().all(|byte| [OPEN, CLOSED].contains(byte));
+        (!right).then_some(Refusal::Hall)
+    }
+
+    fn wrong_limits(&self, capacity: Option<usize>) -> Option<Refusal> {
+        let right = self.k <= MOST_DELAY
+            && self.horizon <= MOST_HORIZON
+            && capacity.is_none_or(|n| (1..=MOST_RECORDS).contains(&n));
+        (!right).then_some(Refusal::Limits)
+    }
+
+    fn wrong_count(&self) -> Option<Refusal> {
+        let right = (1..=MOST_CARRIERS).contains(&self.carriers.len());
+        (!right).then_some(Refusal::Count)
+    }
+
+    fn wrong_cell(&self) -> Option<Refusal> {
+        self.carriers
+            .iter()
+            .position(|carrier| !self.is_open(carrier.start) || !self.is_open(carrier.goal))
+            .map(|carrier| Refusal::Cell { carrier })
+    }
+
+    fn shared_cell(&self) -> Option<Refusal> {
+        let shares = |a: &Carrier, b: &Carrier| a.start == b.start || a.goal == b.goal;
+        self.carriers.iter().enumerate().find_map(|(i, a)| {
+            let behind = self.carriers[i + 1..].iter().position(|b| shares(a, b))?;
+            Some(Refusal::Shared {
+                carrier: i,
+                other: i + 1 + behind,
+            })
+        })
+    }
+}
+
+#[cfg(test)]
+mod tests {
+    use super::*;
+
+    fn job() -> Job {
+        Job {
+            width: 3,
+            height: 2,
+            hall: b"...#..".to_vec(),
+            carriers: vec![
+                Carrier { start: 0, goal: 2 },
+                Carrier { start: 1, goal: 5 },
+                Carrier { start: 4, goal: 1 },
+            ],
+            k: 1,
+            horizon: 6,
+        }
+    }
+
+    #[test]
+    fn a_lawful_job_passes() {
+        assert_eq!(job().refusal(Some(1)), None);
+        assert_eq!(job().refusal(Some(1024)), None);
+        assert_eq!(job().refusal(None), None);
+    }
+
+    #[test]
+    fn size() {
+        for (width, height) in [(0, 2), (3, 0), (17, 2), (3, 17), (0, 0)] {
+            let job = Job {
+                width,
+                height,
+                ..job()
+            };
+            assert_eq!(job.refusal(Some(0)), Some(Refusal::Size));
+        }
+    }
+
+    #[test]
+    fn hall() {
+        for hall in [b"...#.".to_vec(), b"...#...".to_vec(), b"..x#..".to_vec()] {
+            let job = Job { hall, ..job() };
+            assert_eq!(job.refusal(Some(0)), Some(Refusal::Hall));
+        }
+    }
+
+    #[test]
+    fn limits() {
+        assert_eq!(job().refusal(Some(0)), Some(Refusal::Limits));
+        assert_eq!(job().refusal(Some(1025)), Some(Refusal::Limits));
+        let late = Job {
+            horizon: 64,
+            carriers: vec![],
+            ..job()
+        };
+        assert_eq!(late.refusal(None), Some(Refusal::Limits));
+        let slow = Job { k: 5, ..job() };
+        assert_eq!(slow.refusal(None), Some(Refusal::Limits));
+    }
+
+    #[test]
+    fn count() {
+        let none = Job {
+            carriers: vec![],
+            ..job()
+        };
+        assert_eq!(none.refusal(None), Some(Refusal::Count));
+        let nine = Job {
+            carriers: vec![Carrier { start: 0, goal: 0 }; 9],
+            ..job()
+        };
+        assert_eq!(nine.refusal(None), Some(Refusal::Count));
+    }
+
+    #[test]
+    fn first_wrong_cell() {
+        let mut closed = job();
+        closed.carriers[1].goal = 3;
+        closed.carriers[2].start = 200;
+        assert_eq!(closed.refusal(None), Some(Refusal::Cell { carrier: 1 }));
+        let mut outside = job();
+        outside.carriers[2].start = 6;
+        assert_eq!(outside.refusal(None), Some(Refusal::Cell { carrier: 2 }));
+    }
+
+    #[test]
+    fn least_shared_pair() {
+        let mut goals = job();
+        goals.carriers[2].goal = 5;
+        let pair = Refusal::Shared {
+            carrier: 1,
+            other: 2,
+        };
+        assert_eq!(goals.refusal(None), Some(pair));
+        goals.carriers[2].start = 0;
+        let pair = Refusal::Shared {
+            carrier: 0,
+            other: 2,
+        };
+        assert_eq!(goals.refusal(None), Some(pair));
+        assert_eq!((pair.number(), pair.carrier(), pair.other()), (6, 0, 2));
+    }
+}

@@ -1,0 +1,133 @@
+//! "Jobs worked by hand": all of them, and the wrong turns they guard against.
+//! "Cells all open; k is 0 and N is 128 where not given".
+
+use second::brute::{holds, least_sum};
+use second::check::{CheckAnswer, meeting_check, route_check};
+use second::job::{Carrier, Job};
+use second::planner::{PlanAnswer, plan};
+
+fn job(size: (usize, usize), ends: &[(u8, u8)], k: usize, horizon: usize) -> Job {
+    let carriers = ends.iter().map(|&(start, goal)| Carrier { start, goal });
+    Job {
+        width: size.0,
+        height: size.1,
+        hall: vec![46; size.0 * size.1],
+        carriers: carriers.collect(),
+        k,
+        horizon,
+    }
+}
+
+fn found(sum: usize, records: usize, routes: &[&[u8]]) -> PlanAnswer {
+    PlanAnswer {
+        sum,
+        records,
+        routes: routes.iter().map(|route| route.to_vec()).collect(),
+        ..PlanAnswer::default()
+    }
+}
+
+fn not_found(number: u8, records: usize) -> PlanAnswer {
+    PlanAnswer {
+        number,
+        records,
+        ..PlanAnswer::default()
+    }
+}
+
+/// The job's answer; a plan must also pass both checks and every pattern of
+/// holds, and its sum must be the least by brute force.
+fn answer(job: &Job, capacity: usize) -> PlanAnswer {
+    let answer = plan(job, capacity);
+    if answer.number == 0 {
+        let bytes = answer.plan_bytes();
+        assert_eq!(route_check(job, &bytes), CheckAnswer::default());
+        assert_eq!(meeting_check(job, &bytes), CheckAnswer::default());
+        let routes: Vec<&[u8]> = answer.routes.iter().map(Vec::as_slice).collect();
+        assert!(!holds::some_pattern_collides(&routes, job.k));
+        assert_eq!(least_sum::least_sum(job), Some(answer.sum));
+    }
+    if answer.number == 8 {
+        assert_eq!(least_sum::least_sum(job), None);
+    }
+    answer
+}
+
+#[test]
+fn crossing_in_a_square() {
+    let cross = job((3, 3), &[(3, 5), (1, 7)], 0, 4);
+    let plan = found(5, 3, &[&[3, 3, 4, 5, 5], &[1, 4, 7, 7, 7]]);
+    assert_eq!(answer(&cross, 3), plan);
+    assert_eq!(answer(&cross, 128), plan);
+    assert_eq!(answer(&cross, 2), not_found(9, 2));
+    assert_eq!(answer(&cross, 1), not_found(9, 1));
+}
+
+#[test]
+fn crossing_in_a_square_with_delay() {
+    let cross = job((3, 3), &[(3, 5), (1, 7)], 1, 4);
+    let plan = found(6, 3, &[&[3, 0, 1, 2, 5], &[1, 4, 7, 7, 7]]);
+    assert_eq!(answer(&cross, 3), plan);
+}
+
+#[test]
+fn one_carrier_in_a_row() {
+    let row = |horizon| job((3, 1), &[(0, 2)], 0, horizon);
+    assert_eq!(answer(&row(2), 128), found(2, 1, &[&[0, 1, 2]]));
+    assert_eq!(answer(&row(1), 128), not_found(8, 0));
+}
+
+#[test]
+fn head_on_in_a_row() {
+    let row = job((3, 1), &[(0, 2), (2, 0)], 0, 2);
+    assert_eq!(answer(&row, 128), not_found(8, 1));
+}
+
+#[test]
+fn one_cell() {
+    let cell = job((1, 1), &[(0, 0)], 0, 0);
+    assert_eq!(answer(&cell, 128), found(0, 1, &[&[0]]));
+}
+
+#[test]
+fn swap_of_two() {
+    let two = job((2, 1), &[(0, 1), (1, 0)], 0, 1);
+    assert_eq!(answer(&two, 128), not_found(8, 1));
+}
+
+#[test]
+fn following_in_a_row() {
+    let row = |k, horizon| job((3, 1), &[(0, 1), (1, 2)], k, horizon);
+    assert_eq!(answer(&row(0, 1), 128), found(2, 1, &[&[0, 1], &[1, 2]]));
+    assert_eq!(answer(&row(1, 1), 128), not_found(8, 1));
+    let plan = found(3, 2, &[&[0, 0, 1], &[1, 2, 2]]);
+    assert_eq!(answer(&row(1, 2), 128), plan);
+}
+
+#[test]
+fn past_a_carrier_on_its_goal() {
+    let hall = job((4, 2), &[(6, 2), (0, 3)], 0, 3);
+    let answer = answer(&hall, 128);
+    assert_eq!((answer.number, answer.sum), (0, 6));
+}
+
+#[test]
+fn told_numbers_of_refusals() {
+    let mut square = job((3, 3), &[(3, 5), (1, 7)], 0, 4);
+    square.carriers[1].goal = 9;
+    let told = PlanAnswer {
+        number: 5,
+        carrier: 1,
+        ..PlanAnswer::default()
+    };
+    assert_eq!(answer(&square, 128), told);
+    square.carriers[1].goal = 5;
+    let told = PlanAnswer {
+        number: 6,
+        other: 1,
+        ..PlanAnswer::default()
+    };
+    assert_eq!(answer(&square, 128), told);
+    assert_eq!(answer(&square, 0), not_found(3, 0));
+    assert_eq!(answer(&square, 1025), not_found(3, 0));
+}
