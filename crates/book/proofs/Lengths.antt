@@ -1,0 +1,50 @@
+-- What 14 means: each body of a good book is read whole. The hall's body is two numbers and the hall's bytes, the carriers'
+-- body is two bytes for each carrier, and the limits' body is two bytes. Assumes nothing.
+use Prim.Native.Nat.{ℕ, _+_, _*_, _%_, _≤_}
+use native.Mathlib.Omega.{arith}
+use mathlib.Core.Path.{_≡_, ap, _∙_}
+use mathlib.Core.Bool.{false, _||_}
+use mathlib.Core.List.{List}
+use borrow.Author.Tests.{ltb-false, eqb-true, eqb-false, not-false}
+use lib.Dec.{eqb}
+use lib.ListN.{length, length-drop}
+use Rattle.book.specs.declared.BookVerdict.the-variants.{Good}
+use Rattle.book.specs.Book.{entryLength, entryBody, wrongHall, wrongCarriers, wrongLimits, wrongLengths, bookVerdict, bodyOf}
+use Rattle.book.specs.Parts.{hallIn, countIn}
+use Rattle.book.proofs.Verdicts.{neither, good-passed, asked-three, good-body}
+use Rattle.book.proofs.Bodies.{good-consecutive, body-length}
+
+lengths-passed : (book : List ℕ) → wrongLengths book ≡ false
+    → (wrongHall (entryBody book 1) ≡ false) × (wrongCarriers (entryBody book 2) ≡ false) × (wrongLimits (entryBody book 3) ≡ false)
+unfolding wrongLengths
+lengths-passed book e =
+    let h = neither (wrongHall (entryBody book 1) || wrongCarriers (entryBody book 2)) (wrongLimits (entryBody book 3)) e in
+    let k = neither (wrongHall (entryBody book 1)) (wrongCarriers (entryBody book 2)) (h .0) in
+    (k .0, k .1, h .1)
+
+module _ (book : List ℕ) (e : bookVerdict book ≡ Good) where
+  -- a body is as long as its entry says
+  pub asked-length : (n : ℕ) → 1 ≤ n → n ≤ 3 → length (bodyOf book n) ≡ entryLength book n
+  asked-length n l h = ap length (good-body book n (asked-three book n e l h)) ∙ body-length book (good-consecutive book e) n l h
+
+  tests : (wrongHall (entryBody book 1) ≡ false) × (wrongCarriers (entryBody book 2) ≡ false) × (wrongLimits (entryBody book 3) ≡ false)
+  tests = lengths-passed book (good-passed book e .3)
+
+  pub hall-whole : length (bodyOf book 1) ≡ 2 + length (hallIn (bodyOf book 1))
+  unfolding hallIn
+  hall-whole =
+      let b = good-body book 1 (asked-three book 1 e (omega arith) (omega arith)) in
+      let t : 2 ≤ length (bodyOf book 1) = rw b (ltb-false (length (entryBody book 1)) 2 (tests .0)) in
+      omega (arith, length-drop 2 (bodyOf book 1))
+
+  pub carriers-whole : length (bodyOf book 2) ≡ 2 * countIn (bodyOf book 2)
+  unfolding countIn
+  carriers-whole =
+      let b = good-body book 2 (asked-three book 2 e (omega arith) (omega arith)) in
+      let t : ¬ (length (bodyOf book 2) % 2 ≡ 1) = rw b (eqb-false (length (entryBody book 2) % 2) 1 (tests .1)) in
+      omega arith
+
+  pub limits-whole : length (bodyOf book 3) ≡ 2
+  limits-whole =
+      let b = good-body book 3 (asked-three book 3 e (omega arith) (omega arith)) in
+      rw b (eqb-true (length (entryBody book 3)) 2 (not-false (eqb (length (entryBody book 3)) 2) (tests .2)))

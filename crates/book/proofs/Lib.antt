@@ -1,0 +1,6 @@
+pub mod Answers
+pub mod Bodies
+pub mod Example
+pub mod Lengths
+pub mod Settled
+pub mod Verdicts

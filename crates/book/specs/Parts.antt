@@ -1,0 +1,32 @@
+-- Document 01, 'The book of a job': what each body says. Each is read off the body's own bytes, so that it is the same
+-- whichever book the body came from.
+use Prim.Native.Nat.{ℕ, _+_, _*_, _/_}
+use mathlib.Core.List.{List}
+use lib.ListN.{length, getD, drop}
+
+-- 'Kind 1: width, height, hall bytes.'
+unfoldable pub widthIn : List ℕ → ℕ
+widthIn body = getD body 0 0
+
+unfoldable pub heightIn : List ℕ → ℕ
+heightIn body = getD body 1 0
+
+unfoldable pub hallIn : List ℕ → List ℕ
+hallIn body = drop 2 body
+
+-- 'Kind 2: start and goal for each carrier.'
+unfoldable pub countIn : List ℕ → ℕ
+countIn body = length body / 2
+
+unfoldable pub startIn : List ℕ → ℕ → ℕ
+startIn body i = getD body (2 * i) 0
+
+unfoldable pub goalIn : List ℕ → ℕ → ℕ
+goalIn body i = getD body (2 * i + 1) 0
+
+-- 'Kind 3: k, H.'
+unfoldable pub delayIn : List ℕ → ℕ
+delayIn body = getD body 0 0
+
+unfoldable pub horizonIn : List ℕ → ℕ
+horizonIn body = getD body 1 0
