@@ -89,7 +89,7 @@ const MOVES: [Move; 5] = [
     Move { row: 1, col: 0 },
 ];
 
-const MOVE_COUNT: usize = 5;
+pub const MOVE_COUNT: usize = 5;
 
 // How far down move m goes, counted one up: 0 is one row up.
 fn down(m: usize) -> usize
@@ -143,7 +143,7 @@ pub fn landing_at(width: usize, height: usize, row: usize, col: usize, m: usize)
 }
 
 // Does move m lead to `to`?
-fn lands_on(width: usize, height: usize, row: usize, col: usize, m: usize, to: usize) -> bool
+pub fn lands_on(width: usize, height: usize, row: usize, col: usize, m: usize, to: usize) -> bool
     requires { ⌜ (width ≤ 16) × (height ≤ 16) × (row < 256) × (col < 256) × (m < 5) ⌝ }
     ensures { λ r. ⌜ r ≡ anyOf (eqb to) (landing width height row col m) ⌝ }
 {

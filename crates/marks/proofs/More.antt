@@ -1,0 +1,91 @@
+-- Marking by parts: nothing marked at first, some bars more by each marker, and at the end all of a chain, its own bars in front of
+-- its parent's. Assumes nothing.
+use Prim.Native.Nat.{ℕ, _+_, _*_}
+use native.Mathlib.Omega.{arith}
+use mathlib.Core.Path.{_≡_, sym, subst, _∙_}
+use mathlib.Core.List.{List, [], _∷_, _++_, append-assoc, append-nil}
+use lib.ListN.{length}
+use Rattle.lists.specs.Lists.{only}
+use Rattle.routes.specs.Bars.{barsFor}
+use Rattle.routes.specs.declared.Bar.{Bar}
+use Rattle.routes.specs.declared.Bar.the-variants.{Free, Stay, Cross}
+use Rattle.records.specs.Columns.{entry, parentAt, barAt, isBar, ownBars, chainOf, Falls}
+use Rattle.records.proofs.Own.{own-binds, other-binds-not, chain-binds, root-binds}
+use Rattle.marks.specs.Marks.{Marked, boundBy}
+use Rattle.marks.specs.Post.{Layered, Cleared, MarkedMore, MarkedAll}
+use Rattle.marks.proofs.Marking.{mark-none, mark-free}
+use Rattle.marks.proofs.Places.{bounds, same-from, same-then}
+
+module _ (width height h : ℕ) where
+  -- the layers after a marker serve the next as they did it
+  pub still-layered : (before after : List ℕ) → length after ≡ length before → Layered width height h before → Layered width height h after
+  still-layered before after e l = record { some = l .some; wide = l .wide; high = l .high; late = l .late; room = rw e (l .room) }
+
+  pub more-none : (xs : List ℕ) → MarkedMore width height h [] xs xs
+  more-none xs = record { marked = λ bars m. m; kept = same-from ((h + 1) * (width * height)) xs }
+
+  pub more-then : (first second : List Bar) (xs ys zs : List ℕ) → MarkedMore width height h first xs ys → MarkedMore width height h second ys zs → MarkedMore width height h (second ++ first) xs zs
+  more-then first second xs ys zs f g =
+      record {
+        marked = λ bars m. subst (λ l. Marked width height l h zs) (sym (append-assoc second first bars)) (g .marked (first ++ bars) (f .marked bars m));
+        kept = same-then ((h + 1) * (width * height)) xs ys zs (f .kept) (g .kept);
+      }
+
+  pub more-free : (b : Bar) (xs : List ℕ) → b ≡ Free → MarkedMore width height h (b ∷ []) xs xs
+  more-free b xs e =
+      rw e
+      (record {
+        marked = λ bars m. record { marks = λ t v l i. m .marks t v l i ∙ sym (mark-free width height bars t v) };
+        kept = same-from ((h + 1) * (width * height)) xs;
+      })
+
+  pub more-bar : (b c : Bar) (xs ys : List ℕ) → b ≡ c → MarkedMore width height h (c ∷ []) xs ys → MarkedMore width height h (b ∷ []) xs ys
+  more-bar b c xs ys e f = rw e f
+
+  -- a record without a bar marks none, whether it is left out or marked
+  bar-or-none : (b : Bar) (xs ys : List ℕ) → MarkedMore width height h (b ∷ []) xs ys → MarkedMore width height h (only (isBar b) b) xs ys
+  unfolding only isBar
+  bar-or-none Free xs ys f =
+      record {
+        marked = λ bars m. record { marks = λ t v l i. f .marked bars m .marks t v l i ∙ mark-free width height bars t v };
+        kept = f .kept;
+      }
+  bar-or-none (Stay v a b) xs ys f = f
+  bar-or-none (Cross u v t) xs ys f = f
+
+  -- ---- a chain
+
+  module _ (capacity : ℕ) (columns : List ℕ) (x carrier : ℕ) where
+    pub own-other : (xs : List ℕ) → (entry capacity columns 2 x ≡ carrier → ⊥) → MarkedMore width height h (barsFor carrier (ownBars capacity columns x)) xs xs
+    own-other xs n = rw (other-binds-not capacity columns x carrier n) (more-none xs)
+
+    pub own-marked : (b : Bar) (xs ys : List ℕ) → entry capacity columns 2 x ≡ carrier → b ≡ barAt capacity columns x → MarkedMore width height h (b ∷ []) xs ys → MarkedMore width height h (barsFor carrier (ownBars capacity columns x)) xs ys
+    own-marked b xs ys e f g = rw (own-binds capacity columns x carrier e, ← f) (bar-or-none b xs ys g)
+
+    pub root-marked : (xs ys : List ℕ) → x ≡ 0 → MarkedMore width height h (barsFor carrier (ownBars capacity columns x)) xs ys → MarkedMore width height h (barsFor carrier (chainOf capacity columns x)) xs ys
+    root-marked xs ys e f = rw (root-binds capacity columns x carrier e) f
+
+    pub chain-marked : (p : ℕ) (xs ys zs : List ℕ) → Falls capacity columns x → (x ≡ 0 → ⊥) → p ≡ parentAt capacity columns x → MarkedMore width height h (barsFor carrier (chainOf capacity columns p)) xs ys → MarkedMore width height h (barsFor carrier (ownBars capacity columns x)) ys zs → MarkedMore width height h (barsFor carrier (chainOf capacity columns x)) xs zs
+    chain-marked p xs ys zs d n e f g =
+        rw (chain-binds capacity columns x carrier (d .down x (omega (arith, n)) (omega arith)), ← e)
+        (more-then (barsFor carrier (chainOf capacity columns p)) (barsFor carrier (ownBars capacity columns x)) xs ys zs f g)
+
+    -- ---- all bars
+
+    cleared-marked : (before xs : List ℕ) → Layered width height h before → Cleared ((h + 1) * (width * height)) before xs → Marked width height [] h xs
+    cleared-marked before xs l c =
+        record {
+          marks = λ t v k i.
+              c .zeros (t * (width * height) + v) (bounds width height h t v before l k i .below)
+              ∙ sym (mark-none width height t v);
+        }
+
+    pub all-marked : (b : Bar) (before xs ys zs : List ℕ) → Layered width height h before → Cleared ((h + 1) * (width * height)) before xs → MarkedMore width height h (barsFor carrier (chainOf capacity columns x)) xs ys → MarkedMore width height h (b ∷ []) ys zs → MarkedAll width height h (boundBy capacity columns x carrier b) before zs
+    unfolding boundBy
+    all-marked b before xs ys zs l c f g =
+        let chain = barsFor carrier (chainOf capacity columns x) in
+        let m : Marked width height chain h ys = subst (λ l. Marked width height l h ys) (append-nil chain) (f .marked [] (cleared-marked before xs l c)) in
+        record {
+          marked = g .marked chain m;
+          kept = same-then ((h + 1) * (width * height)) before ys zs (same-then ((h + 1) * (width * height)) before xs ys (c .kept) (f .kept)) (g .kept);
+        }

@@ -1,0 +1,79 @@
+-- Marking a stay: steps a to t of one cell are 255 and every other place is as before, one step more at each turn. At the end these
+-- are the places that the bar forbids, since places of different steps or cells are different. Assumes nothing.
+use Prim.Native.Nat.{ℕ, _+_, _*_, _≤_, _<_, min, max}
+use native.Mathlib.Omega.{arith}
+use native.Mathlib.Decide.{ℕ-discrete, decLe}
+use mathlib.Core.Path.{_≡_, refl, sym, ap, _∙_}
+use mathlib.Core.List.{List, [], _∷_}
+use lib.ListN.{length, getD, set}
+use lib.Seq.{getD-set-same, getD-set-other}
+use Rattle.routes.specs.declared.Bar.{Bar}
+use Rattle.routes.specs.declared.Bar.the-variants.{Stay}
+use Rattle.marks.specs.Marks.{markOf, SameFrom}
+use Rattle.marks.specs.Post.{MarkedMore}
+use Rattle.marks.proofs.Marking.{mark-stayed, mark-not-stayed}
+use Rattle.marks.proofs.Places.{same-step, same-cell, same-from}
+
+-- steps a up to t, t not among them
+pub record Stayed (size cell a t : ℕ) (before after : List ℕ) : Type 0 where
+  pub inside : (s : ℕ) → a ≤ s → s < t → getD after (s * size + cell) 0 ≡ 255
+  pub outside : (x : ℕ) → ((s : ℕ) → a ≤ s → s < t → x ≡ s * size + cell → ⊥) → getD after x 0 ≡ getD before x 0
+
+pub stayed-none : (size cell a : ℕ) (xs : List ℕ) → Stayed size cell a a xs xs
+stayed-none size cell a xs = record { inside = λ s l k. absurd (omega arith); outside = λ x n. refl }
+
+pub stayed-more : (size cell a t : ℕ) (before xs : List ℕ) → a ≤ t → t * size + cell < length xs → Stayed size cell a t before xs → Stayed size cell a (t + 1) before (set xs (t * size + cell) 255)
+stayed-more size cell a t before xs l i st =
+    record {
+      inside = λ s m k.
+          elim (ℕ-discrete (s * size + cell) (t * size + cell)) [
+            | yes e ↦ rw e (getD-set-same xs (t * size + cell) 255 0 i)
+            | no n ↦
+                getD-set-other xs (t * size + cell) (s * size + cell) 255 0 n
+                ∙ st .inside s m (earlier s k (λ e. n (ap (λ (y : ℕ). y * size + cell) e)))
+          ];
+      outside = λ x n.
+          getD-set-other xs (t * size + cell) x 255 0 (n t l (omega arith))
+          ∙ st .outside x (λ s m k e. n s m (omega arith) e);
+    }
+  where
+    earlier : (s : ℕ) → s < t + 1 → (s ≡ t → ⊥) → s < t
+    earlier s k n = omega (arith, n)
+
+module _ (width height h cell a b : ℕ) where
+  -- the turns from a to t were those of the steps up to h that the bar forbids
+  pub record AllTurns (t : ℕ) : Type 0 where
+    pub started : a ≤ t
+    pub ended : t ≤ max a (min b h + 1)
+    pub past : min b h < t
+
+  module _ (t : ℕ) (before after : List ℕ) (all : AllTurns t) (c : cell < width * height) (st : Stayed (width * height) cell a t before after) where
+    untouched : (s v : ℕ) → v < width * height → (v ≡ cell → a ≤ s → s ≤ b → ⊥) → getD after (s * (width * height) + v) 0 ≡ getD before (s * (width * height) + v) 0
+    untouched s v i n =
+        st .outside (s * (width * height) + v) (λ r l k e.
+        let f : s ≡ r = same-step (width * height) s r v cell i c e in
+        let e1 = all .ended in
+        n (same-cell (width * height) s r v cell i c e) (omega arith) (omega arith))
+
+    stay-mark : (bars : List Bar) (s v : ℕ) → s ≤ h → v < width * height → getD before (s * (width * height) + v) 0 ≡ markOf width height bars s v → getD after (s * (width * height) + v) 0 ≡ markOf width height (Stay cell a b ∷ bars) s v
+    stay-mark bars s v l i e = go (ℕ-discrete v cell) (decLe a s) (decLe s b)
+      where
+        other : (v ≡ cell → a ≤ s → s ≤ b → ⊥) → getD after (s * (width * height) + v) 0 ≡ markOf width height (Stay cell a b ∷ bars) s v
+        other n = untouched s v i n ∙ e ∙ sym (mark-not-stayed width height bars s v cell a b n)
+
+        go : Dec (v ≡ cell) → Dec (a ≤ s) → Dec (s ≤ b) → getD after (s * (width * height) + v) 0 ≡ markOf width height (Stay cell a b ∷ bars) s v
+        go (no n) y z = other (λ p q r. n p)
+        go (yes x) (no n) z = other (λ p q r. n q)
+        go (yes x) (yes y) (no n) = other (λ p q r. n r)
+        go (yes x) (yes y) (yes z) = rw x (st .inside s y (omega (arith, all .past)) ∙ sym (mark-stayed width height bars s cell cell a b refl y z))
+
+    pub stayed-marked : SameFrom ((h + 1) * (width * height)) before after → MarkedMore width height h (Stay cell a b ∷ []) before after
+    stayed-marked kept = record { marked = λ bars m. record { marks = λ s v l i. stay-mark bars s v l i (m .marks s v l i) }; kept = kept }
+
+  -- a bar of no cell of the hall
+  pub stay-outside : (xs : List ℕ) → width * height ≤ cell → MarkedMore width height h (Stay cell a b ∷ []) xs xs
+  stay-outside xs o =
+      record {
+        marked = λ bars m. record { marks = λ t v l i. m .marks t v l i ∙ sym (mark-not-stayed width height bars t v cell a b (λ e j k. omega arith)) };
+        kept = same-from ((h + 1) * (width * height)) xs;
+      }

@@ -1,0 +1,45 @@
+-- What the markers ask and promise: from layers marked for any bars to layers marked for some more in front of them.
+use Prim.Native.Nat.{ℕ, _+_, _*_, _/_, _%_, _^_, _≤_, _<_}
+use mathlib.Core.Path.{_≡_}
+use mathlib.Core.Bool.{Bool, true, false}
+use mathlib.Core.List.{List, _++_}
+use lib.Dec.{eqb}
+use lib.ListN.{length, getD}
+use Rattle.lists.specs.Lists.{anyOf}
+use Rattle.hall.specs.Moves.{landing, moveCount}
+use Rattle.routes.specs.declared.Bar.{Bar}
+use Rattle.marks.specs.Marks.{Marked, SameFrom}
+
+-- layers with a byte for each step up to h and each cell of a hall
+pub record Layered (width height h : ℕ) (layers : List ℕ) : Type 0 where
+  pub some : 1 ≤ width
+  pub wide : width ≤ 16
+  pub high : height ≤ 16
+  pub late : h ≤ 63
+  pub room : (h + 1) * (width * height) ≤ length layers
+
+pub record Cleared (n : ℕ) (before after : List ℕ) : Type 0 where
+  pub zeros : (x : ℕ) → x < n → getD after x 0 ≡ 0
+  pub kept : SameFrom n before after
+
+pub record MarkedMore (width height h : ℕ) (more : List Bar) (before after : List ℕ) : Type 0 where
+  pub marked : (bars : List Bar) → Marked width height bars h before → Marked width height (more ++ bars) h after
+  pub kept : SameFrom ((h + 1) * (width * height)) before after
+
+pub record MarkedAll (width height h : ℕ) (bars : List Bar) (before after : List ℕ) : Type 0 where
+  pub marked : Marked width height bars h after
+  pub kept : SameFrom ((h + 1) * (width * height)) before after
+
+-- does move m lead from one cell to another?
+abbrev pub leads : ℕ → ℕ → ℕ → ℕ → ℕ → Bool
+leads width height from to m = anyOf (eqb to) (landing width height (from / width) (from % width) m)
+
+-- the move from one cell to another, or `moveCount` where none leads there
+pub record MoveTo (width height from to m : ℕ) : Type 0 where
+  pub listed : m ≤ moveCount
+  pub lands : m < moveCount → leads width height from to m ≡ true
+  pub passed : (k : ℕ) → k < m → leads width height from to k ≡ false
+
+-- a number with one binary digit set
+unfoldable pub withDigit : ℕ → ℕ → ℕ
+withDigit x m = elim (eqb (x / 2 ^ m % 2) 0) [ true ↦ x + 2 ^ m | false ↦ x ]
