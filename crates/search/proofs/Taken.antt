@@ -8,7 +8,7 @@ use mathlib.Core.Logic.{_⊎_}
 use mathlib.Core.Option.{Option, none, some}
 use mathlib.Core.Path.{_≡_, refl, ap, subst}
 use native.Mathlib.Omega.{arith}
-use borrow.Author.Tests.{leb-true, leb-false}
+use borrow.Author.Tests.{leb-true, leb-false, le-leb, lt-leb}
 use lib.Dec.{leb}
 use lib.ListN.{length, length-append}
 use Rattle.lists.specs.Lists.{Every, Any}
@@ -82,6 +82,17 @@ module _ {Node : Type 0} (sum : Node → ℕ) (clear : Node → Bool) (kids : No
   pub some-first-least : (live : List Node) (o : Taken Node) → takeLeast sum clear kids live ≡ some o → FirstLeast sum live o
   unfolding Took
   some-first-least live o e = subst (λ (t : Option (Taken Node)). Took sum live t) e (took live)
+
+  prefer-keeps : (n : Node) (ns : List Node) (t : Option (Taken Node)) → Took sum ns t → Every (λ x. sum n ≤ sum x) ns → prefer sum clear kids n ns t ≡ record { node = n; rest = ns }
+  unfolding Took prefer
+  prefer-keeps n ns none e h = refl
+  prefer-keeps n ns (some o) f h = rw (le-leb (sum n) (sum (o .node)) (taken-every f (λ x. sum n ≤ sum x) h .0), prefer) refl
+
+  -- the node that is less than all before it and at most all after it is taken
+  pub split-taken : (before : List Node) (n : Node) (after : List Node) → Every (λ x. sum n < sum x) before → Every (λ x. sum n ≤ sum x) after → takeLeast sum clear kids (before ++ n ∷ after) ≡ some (record { node = n; rest = before ++ after })
+  unfolding takeLeast prefer Every
+  split-taken [] n after h k = ap some (prefer-keeps n after (takeLeast sum clear kids after) (took after) k)
+  split-taken (b ∷ before) n after h k = rw (split-taken before n after (h .1) k, lt-leb (sum b) (sum n) (h .0), prefer) refl
 
   module _ (Good : Node → Type 0) (good-kids : (n : Node) → Good n → clear n ≡ false → Every Good (kids n)) where
     -- the open nodes of the next turn are good, if these are

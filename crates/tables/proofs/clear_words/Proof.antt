@@ -1,0 +1,53 @@
+-- The loop's invariant: the first i entries are zero, the rest are as they were. Assumes nothing.
+use Prim.Native.Nat.{_≤_, _-_}
+use native.Mathlib.Omega.{arith}
+use mathlib.Core.Path.{_≡_}
+use Rattle.tables.specs.Tables.{zeroed}
+use Rattle.tables.proofs.Copies.{at-end, zeroed-none, zeroed-more, zeroed-length}
+use Rattle.tables.proofs.clear_words.Statement.{statement}
+use Rattle.tables.proofs.clear_words.Tie as tie
+
+abbrev Inv-loop : tie.InvT-loop
+Inv-loop words₀ n i₀ words i = (i ≤ n) × (words ≡ zeroed i words₀)
+
+abbrev μ-loop : tie.MeasureT-loop
+μ-loop words₀ n i₀ words i = n - i
+
+loop-holds : tie.Need-loop-holds Inv-loop μ-loop
+loop-holds c = (omega arith, zeroed-none (c .args .words .now))
+
+mul-words : tie.Need-mul-words Inv-loop μ-loop
+mul-words c = omega arith
+
+slice-write-words : tie.Need-slice-write-words Inv-loop μ-loop
+slice-write-words c = omega (arith, zeroed-length (c .before .before .args .words .now) (c .before .loop .words) (c .before .loop .i) (omega arith) (c .before .loop .inv .1))
+
+add-i : tie.Need-add-i Inv-loop μ-loop
+add-i c = omega arith
+
+loop-less : tie.Need-loop-less Inv-loop μ-loop
+loop-less c = omega arith
+
+loop-again : tie.Need-loop-again Inv-loop μ-loop
+loop-again c = (omega arith, zeroed-more (c .before .before .args .words .now) (c .before .loop .words) (c .before .loop .i) (omega arith) (c .before .loop .inv .1))
+
+same-length : tie.Need-same-length Inv-loop μ-loop
+same-length c = zeroed-length (c .before .before .args .words .now) (c .before .loop .words) (c .before .loop .i) (omega arith) (c .before .loop .inv .1)
+
+returns : tie.Need-returns Inv-loop μ-loop
+returns c = at-end (λ k. zeroed k (c .before .before .args .words .now)) (c .before .loop .words) (c .before .loop .i) (c .before .before .args .n) (omega arith) (omega arith) (c .before .loop .inv .1)
+
+pub clear-words-spec : {M : Type 1} → statement M
+clear-words-spec =
+    tie.close
+    (tie.spec
+    Inv-loop
+    μ-loop
+    loop-holds
+    mul-words
+    slice-write-words
+    add-i
+    loop-less
+    loop-again
+    same-length
+    returns)
