@@ -7,7 +7,8 @@ use Prim.Native.Nat.{ℕ}
 use lib.Dec.{ltb}
 use lib.ListN.{length}
 use Rattle.job.specs.Job.{Job, slipOf, mostSlip, planLength, planCell}
-use Rattle.job.specs.Told.{Fault, bare, refusal}
+use Rattle.job.specs.Told.{bare, refusal}
+use Rattle.job.specs.declared.Fault.{Fault}
 use Rattle.job.specs.Verdict.{judge, verdictTold, ifAccepted}
 use Rattle.clashes.specs.Chosen.{chosen}
 use Rattle.clashes.specs.declared.Clash.{Clash}

@@ -1,12 +1,7 @@
 -- Document 01, 'Numbers given back': the number and what is told beside it. 'Untold numbers are 0.'
 use Prim.Native.Nat.{ℕ}
-
-pub record Told : Type 0 where
-  pub number : ℕ
-  pub sum : ℕ
-  pub records : ℕ
-  pub carrier : ℕ
-  pub other : ℕ
+use Rattle.job.specs.declared.Told.{Told}
+use Rattle.job.specs.declared.Fault.{Fault}
 
 -- a number with nothing told
 abbrev pub bare : ℕ → Told
@@ -19,15 +14,6 @@ named n i j = record { number = n; sum = 0; records = 0; carrier = i; other = j 
 -- a number with a sum and records
 abbrev pub counted : ℕ → ℕ → ℕ → Told
 counted n s r = record { number = n; sum = s; records = r; carrier = 0; other = 0 }
-
--- what the two plan checks give back: a number, one carrier or two, a step, a distance, and 1 for a swap
-pub record Fault : Type 0 where
-  pub number : ℕ
-  pub carrier : ℕ
-  pub other : ℕ
-  pub step : ℕ
-  pub distance : ℕ
-  pub swap : ℕ
 
 -- a refusal of the job, as a check gives it back
 abbrev pub refusal : Told → Fault

@@ -5,7 +5,8 @@ use mathlib.Core.Option.{Option, none, some}
 use mathlib.Core.Path.{_≡_}
 use Rattle.hall.specs.Hall.{wrongGrid, wrongBytes}
 use Rattle.job.specs.Job.{Job, Pair, wrongLimits, wrongCount, firstWrong, firstShared}
-use Rattle.job.specs.Told.{Told, bare, named}
+use Rattle.job.specs.Told.{bare, named}
+use Rattle.job.specs.declared.Told.{Told}
 use Rattle.job.specs.declared.Verdict.{Verdict}
 use Rattle.job.specs.declared.Verdict.the-variants.{Accepted, WrongGrid, WrongBytes, WrongLimits, WrongCount, WrongEnds, SharedEnds}
 

@@ -7,7 +7,8 @@ ghost use Rattle.lists.specs.Lists.{firstOf};
 ghost use Rattle.hall.specs.Hall.{isOpen};
 ghost use Rattle.job.specs.Job.{wrongCapacity, firstWrong, share, firstShared};
 ghost use Rattle.job.specs.Team.{jobOf};
-ghost use Rattle.job.specs.Verdict.{endsVerdict, sharedVerdict, judgeWith};
+ghost use Rattle.job.specs.Told.{refusal as refusalOf};
+ghost use Rattle.job.specs.Verdict.{verdictTold, endsVerdict, sharedVerdict, judgeWith};
 ghost use Rattle.job.specs.Found.{carriersOf, endFound, pairFound, pairsFrom};
 
 // 'the delay bound k (0 to 4), the horizon H (0 to 63) and the capacity N (1 to 1,024 records). There are 1 to 8 carriers.'
@@ -35,6 +36,67 @@ pub enum Verdict {
     WrongCount,
     WrongEnds { carrier: usize },
     SharedEnds { carrier: usize, other: usize },
+}
+
+// What is given back: the number and what is told beside it. 'Untold numbers are 0.'
+pub struct Told {
+    pub number: usize,
+    pub sum: usize,
+    pub records: usize,
+    pub carrier: usize,
+    pub other: usize,
+}
+
+// What the two plan checks give back: a number, one carrier or two, a step, a distance, and 1 for a swap.
+pub struct Fault {
+    pub number: usize,
+    pub carrier: usize,
+    pub other: usize,
+    pub step: usize,
+    pub distance: usize,
+    pub swap: usize,
+}
+
+// A number with nothing told, or with a carrier or two.
+fn named(number: usize, carrier: usize, other: usize) -> Told
+    ensures { λ r. ⌜ r ≡ record { number = number; sum = 0; records = 0; carrier = carrier; other = other } ⌝ }
+{
+    Told {
+        number,
+        sum: 0,
+        records: 0,
+        carrier,
+        other,
+    }
+}
+
+// The number of a verdict, and what it tells.
+pub fn verdict_told(verdict: Verdict) -> Told
+    ensures { λ r. ⌜ r ≡ verdictTold verdict ⌝ }
+{
+    match verdict {
+        Verdict::Accepted => named(0, 0, 0),
+        Verdict::WrongGrid => named(1, 0, 0),
+        Verdict::WrongBytes => named(2, 0, 0),
+        Verdict::WrongLimits => named(3, 0, 0),
+        Verdict::WrongCount => named(4, 0, 0),
+        Verdict::WrongEnds { carrier } => named(5, carrier, 0),
+        Verdict::SharedEnds { carrier, other } => named(6, carrier, other),
+    }
+}
+
+// A refusal of the job, as a check gives it back.
+pub fn refusal(told: Told) -> Fault
+    ensures { λ r. ⌜ r ≡ refusalOf told ⌝ }
+{
+    Fault {
+        number: told.number,
+        carrier: told.carrier,
+        other: told.other,
+        step: 0,
+        distance: 0,
+        swap: 0,
+    }
 }
 
 // Answer 3, of N: 'N is 0 or above 1,024'.

@@ -3,7 +3,8 @@ use Prim.Native.Nat.{ℕ}
 use mathlib.Core.Bool.{Bool, true, false}
 use mathlib.Core.Option.{none, some}
 use Rattle.job.specs.Job.{Job, wrongCapacity}
-use Rattle.job.specs.Told.{Told, bare, counted}
+use Rattle.job.specs.Told.{bare, counted}
+use Rattle.job.specs.declared.Told.{Told}
 use Rattle.job.specs.Verdict.{judgeWith, verdictTold, ifAccepted}
 use Rattle.search.specs.Search.{Outcome, done, full}
 use Rattle.tables.specs.Tables.{Tables, shortTable, workedOn, withPlan}

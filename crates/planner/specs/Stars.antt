@@ -6,7 +6,8 @@ use lib.ListN.{length, getD, replicate}
 use Rattle.lists.specs.Lists.{each}
 use Rattle.hall.specs.Hall.{Hall, size, openByte}
 use Rattle.job.specs.Job.{Job, planLength}
-use Rattle.job.specs.Told.{Told, counted}
+use Rattle.job.specs.Told.{counted}
+use Rattle.job.specs.declared.Told.{Told}
 use Rattle.tree.specs.Plan.{Routes}
 use Rattle.tables.specs.Tables.{Tables, columnsLength, plansLength, layersLength}
 use Rattle.planner.specs.Answer.{Result, planned, answerTold}

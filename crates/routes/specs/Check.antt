@@ -12,7 +12,8 @@ use Rattle.lists.specs.Lists.{range, each, anyOf, firstOf}
 use Rattle.hall.specs.Hall.{Hall}
 use Rattle.hall.specs.Moves.{mayFollow}
 use Rattle.job.specs.Job.{Job, planLength, planCell}
-use Rattle.job.specs.Told.{Fault, bare, refusal}
+use Rattle.job.specs.Told.{bare, refusal}
+use Rattle.job.specs.declared.Fault.{Fault}
 use Rattle.job.specs.Verdict.{judge, verdictTold, ifAccepted}
 use Rattle.routes.specs.declared.RouteVerdict.{RouteVerdict}
 use Rattle.routes.specs.declared.RouteVerdict.the-variants.{Lawful, Refused, Short, Wrong}
