@@ -1,7 +1,563 @@
 // The best route of a carrier under its bars, worked out in the lent layers and written into the node's own stretch.
+// Rule 2 of document 01: the layers hold, for each step and cell, first a mark of the bars there (crate marks), then the cost of the
+// best way on, from the horizon back to step 0; the route is then read off forwards.
+use hall::Landing;
+use routes::Bar;
+ghost use Prim.Native.Nat.{_+_, _-_, _*_, _/_, _%_, min, _≤_, _<_};
+ghost use mathlib.Core.Path.{_≡_};
+ghost use mathlib.Core.List.{map};
+ghost use lib.Dec.{leb};
+ghost use lib.ListN.{length, getD, set};
+ghost use Rattle.lists.specs.Lists.{keep};
+ghost use Rattle.hall.specs.Moves.{landing, reachFrom};
+ghost use Rattle.hall.specs.Landing.{landed};
+ghost use Rattle.records.specs.Columns.{Falls};
+ghost use Rattle.marks.specs.Marks.{boundBy};
+ghost use Rattle.marks.specs.Post.{Layered};
+ghost use Rattle.layers.specs.Layers.{crossingStarts, routeFrom, writtenRoute, Filled};
+ghost use Rattle.layers.specs.Post.{SoughtRoute};
+ghost use Rattle.layers.specs.Write.{mayGo, goesTo, goneTo};
+ghost use Rattle.layers.specs.Fill.{lentHall, levelIn, leastOf, odd, unless, turnsBy, afterStep, madeLevel, lastLevel, madeByte, lastByte, Made, MadeFrom, Levelled};
+
+// The level of a cell from which there is no way to the goal.
+const NO_WAY: usize = 127;
+
+// Added to the level where a barred crossing starts.
+const CROSSING: usize = 128;
+
+// The mark of a cell that a bar forbids.
+const BARRED: usize = 255;
+
+const MOVE_COUNT: usize = 5;
 
 // What seeking a route finds: none, or one of this cost.
 pub enum Sought {
     Nothing,
     Cost(usize),
+}
+
+// ---- one cell
+
+fn level_at(layers: &[u8], at: usize) -> usize
+    requires { ⌜ at < length (now layers) ⌝ }
+    ensures { λ r. ⌜ r ≡ getD (now (layers .entry)) at 0 % 128 ⌝ }
+{
+    (layers[at] % 128) as usize
+}
+
+// The level that move m leads to in the layer that starts at `next`.
+fn level_by(
+    layers: &[u8],
+    width: usize,
+    height: usize,
+    next: usize,
+    row: usize,
+    col: usize,
+    m: usize,
+) -> usize
+    requires { ⌜ (width ≤ 16) × (height ≤ 16) × (row < height) × (col < width) × (m < 5) × (next + width * height ≤ length (now layers)) ⌝ }
+    ensures { λ r. ⌜ r ≡ leastOf (map (levelIn (now (layers .entry)) next) (landing width height row col m)) ⌝ }
+{
+    let l = hall::landing_at(width, height, row, col, m);
+    match l {
+        Landing::Off => NO_WAY,
+        Landing::Cell(w) => level_at(layers, next + w),
+    }
+}
+
+// The same where the digit of move m, the last of `rest`, is not set: no bar forbids the move.
+fn free_level(
+    layers: &[u8],
+    width: usize,
+    height: usize,
+    next: usize,
+    row: usize,
+    col: usize,
+    m: usize,
+    rest: usize,
+) -> usize
+    requires { ⌜ (width ≤ 16) × (height ≤ 16) × (row < height) × (col < width) × (m < 5) × (next + width * height ≤ length (now layers)) ⌝ }
+    ensures { λ r. ⌜ r ≡ leastOf (map (levelIn (now (layers .entry)) next) (unless (odd rest) (landing width height row col m))) ⌝ }
+{
+    if rest % 2 == 1 {
+        return NO_WAY;
+    }
+    level_by(layers, width, height, next, row, col, m)
+}
+
+fn lesser(a: usize, b: usize) -> usize
+    ensures { λ r. ⌜ r ≡ min a b ⌝ }
+{
+    if a <= b { a } else { b }
+}
+
+// The least level one step later.
+fn least_on(
+    layers: &[u8],
+    width: usize,
+    height: usize,
+    next: usize,
+    row: usize,
+    col: usize,
+    mark: usize,
+) -> usize
+    requires { ⌜ (width ≤ 16) × (height ≤ 16) × (row < height) × (col < width) × (next + width * height ≤ length (now layers)) ⌝ }
+    ensures { λ r. ⌜ r ≡ leastOf (map (levelIn (now (layers .entry)) next) (turnsBy width height row col mark)) ⌝ }
+{
+    let mut least = NO_WAY;
+    let mut rest = mark;
+    let mut m = 0;
+    while m < MOVE_COUNT {
+        least = lesser(
+            least,
+            free_level(layers, width, height, next, row, col, m, rest),
+        );
+        rest = rest / 2;
+        m += 1;
+    }
+    least
+}
+
+// One step more in front: nothing is added only where all of the rest is on the goal, and this too.
+fn after_step(stays: bool, least: usize) -> usize
+    requires { ⌜ least ≤ 127 ⌝ }
+    ensures { λ r. ⌜ r ≡ afterStep stays least ⌝ }
+{
+    if least == NO_WAY {
+        return NO_WAY;
+    }
+    if least == 0 {
+        if stays {
+            return 0;
+        }
+        return 1;
+    }
+    least + 1
+}
+
+// The level of a cell before the horizon.
+fn cell_level(
+    hall: &[u8],
+    layers: &[u8],
+    width: usize,
+    height: usize,
+    goal: usize,
+    next: usize,
+    row: usize,
+    col: usize,
+    mark: usize,
+) -> usize
+    requires { ⌜ (width ≤ 16) × (height ≤ 16) × (row < height) × (col < width) × (next + width * height ≤ length (now layers)) ⌝ }
+    ensures { λ r. ⌜ r ≡ madeLevel (lentHall width height (now (hall .entry))) goal (levelIn (now (layers .entry)) next) (row * width + col) mark ⌝ }
+{
+    let v = row * width + col;
+    if mark == BARRED {
+        return NO_WAY;
+    }
+    if hall::is_open(hall, width, height, v) {
+        return after_step(
+            v == goal,
+            least_on(layers, width, height, next, row, col, mark),
+        );
+    }
+    NO_WAY
+}
+
+fn crossing(mark: usize) -> usize
+    ensures { λ r. ⌜ r ≡ crossingStarts mark ⌝ }
+{
+    if mark == 0 {
+        return 0;
+    }
+    if mark == BARRED {
+        return 0;
+    }
+    CROSSING
+}
+
+// The level of a cell at the horizon.
+fn last_level(hall: &[u8], width: usize, height: usize, goal: usize, v: usize, mark: usize) -> usize
+    requires { ⌜ (width ≤ 16) × (height ≤ 16) ⌝ }
+    ensures { λ r. ⌜ r ≡ lastLevel (lentHall width height (now (hall .entry))) goal v mark ⌝ }
+{
+    if mark == BARRED {
+        return NO_WAY;
+    }
+    if v != goal {
+        return NO_WAY;
+    }
+    if hall::is_open(hall, width, height, v) {
+        return 0;
+    }
+    NO_WAY
+}
+
+// ---- one layer
+
+fn fill_cell(
+    hall: &[u8],
+    width: usize,
+    height: usize,
+    goal: usize,
+    base: usize,
+    row: usize,
+    col: usize,
+    layers: &mut [u8],
+)
+    requires { ⌜ (width ≤ 16) × (height ≤ 16) × (row < height) × (col < width) × (base + width * height + width * height ≤ length (now layers)) ⌝ }
+    ensures { λ _. ⌜ now (layers .exit) ≡ set (now (layers .entry)) (base + (row * width + col)) (madeByte (lentHall width height (now (hall .entry))) goal (now (layers .entry)) (base + width * height) (row * width + col) (getD (now (layers .entry)) (base + (row * width + col)) 0)) ⌝ }
+{
+    let at = base + (row * width + col);
+    let mark = layers[at] as usize;
+    let level = cell_level(
+        hall,
+        layers,
+        width,
+        height,
+        goal,
+        base + width * height,
+        row,
+        col,
+        mark,
+    );
+    layers[at] = (level + crossing(mark)) as u8;
+}
+
+fn fill_row(
+    hall: &[u8],
+    width: usize,
+    height: usize,
+    goal: usize,
+    base: usize,
+    row: usize,
+    layers: &mut [u8],
+)
+    requires { ⌜ (width ≤ 16) × (height ≤ 16) × (row < height) × (base + width * height + width * height ≤ length (now layers)) ⌝ }
+    ensures { λ _. ⌜ Made base (row * width) (row * width + width) (madeByte (lentHall width height (now (hall .entry))) goal (now (layers .entry)) (base + width * height)) (now (layers .entry)) (now (layers .exit)) ⌝ }
+{
+    let mut col = width;
+    while 0 < col {
+        col -= 1;
+        fill_cell(hall, width, height, goal, base, row, col, layers);
+    }
+}
+
+// A layer before the horizon, of the one that follows it.
+fn fill_layer(hall: &[u8], width: usize, height: usize, goal: usize, base: usize, layers: &mut [u8])
+    requires { ⌜ (width ≤ 16) × (height ≤ 16) × (base + width * height + width * height ≤ length (now layers)) ⌝ }
+    ensures { λ _. ⌜ Made base 0 (width * height) (madeByte (lentHall width height (now (hall .entry))) goal (now (layers .entry)) (base + width * height)) (now (layers .entry)) (now (layers .exit)) ⌝ }
+{
+    let mut row = height;
+    while 0 < row {
+        row -= 1;
+        fill_row(hall, width, height, goal, base, row, layers);
+    }
+}
+
+fn last_cell(
+    hall: &[u8],
+    width: usize,
+    height: usize,
+    goal: usize,
+    base: usize,
+    v: usize,
+    layers: &mut [u8],
+)
+    requires { ⌜ (width ≤ 16) × (height ≤ 16) × (v < width * height) × (base + width * height ≤ length (now layers)) ⌝ }
+    ensures { λ _. ⌜ now (layers .exit) ≡ set (now (layers .entry)) (base + v) (lastByte (lentHall width height (now (hall .entry))) goal v (getD (now (layers .entry)) (base + v) 0)) ⌝ }
+{
+    let at = base + v;
+    let mark = layers[at] as usize;
+    layers[at] = (last_level(hall, width, height, goal, v, mark) + crossing(mark)) as u8;
+}
+
+// The layer at the horizon.
+fn fill_last(hall: &[u8], width: usize, height: usize, goal: usize, base: usize, layers: &mut [u8])
+    requires { ⌜ (width ≤ 16) × (height ≤ 16) × (base + width * height ≤ length (now layers)) ⌝ }
+    ensures { λ _. ⌜ Made base 0 (width * height) (lastByte (lentHall width height (now (hall .entry))) goal) (now (layers .entry)) (now (layers .exit)) ⌝ }
+{
+    let mut v = width * height;
+    while 0 < v {
+        v -= 1;
+        last_cell(hall, width, height, goal, base, v, layers);
+    }
+}
+
+// ---- all layers
+
+// The layers before the horizon, step by step back to 0.
+fn fill_back(hall: &[u8], width: usize, height: usize, goal: usize, h: usize, layers: &mut [u8])
+    requires { ⌜ (width ≤ 16) × (height ≤ 16) × (h ≤ 63) × ((h + 1) * (width * height) ≤ length (now layers)) ⌝ }
+    ensures { λ _. ⌜ MadeFrom (lentHall width height (now (hall .entry))) goal h 0 (now (layers .entry)) (now (layers .exit)) ⌝ }
+{
+    let mut t = h;
+    while 0 < t {
+        t -= 1;
+        fill_layer(hall, width, height, goal, t * (width * height), layers);
+    }
+}
+
+// From marks to levels.
+fn fill(hall: &[u8], width: usize, height: usize, goal: usize, h: usize, layers: &mut [u8])
+    requires { ⌜ (width ≤ 16) × (height ≤ 16) × (h ≤ 63) × ((h + 1) * (width * height) ≤ length (now layers)) ⌝ }
+    ensures { λ _. ⌜ Levelled (lentHall width height (now (hall .entry))) goal h (now (layers .entry)) (now (layers .exit)) ⌝ }
+{
+    fill_last(hall, width, height, goal, h * (width * height), layers);
+    fill_back(hall, width, height, goal, h, layers);
+}
+
+// Document 01, rule 2: whether a carrier has a route under the bars that bind it at a node and one new bar, and its least cost. The layers
+// then hold the levels from which `write_route` reads the route.
+pub fn seek_route(
+    hall: &[u8],
+    width: usize,
+    height: usize,
+    start: usize,
+    goal: usize,
+    h: usize,
+    columns: &[u16],
+    capacity: usize,
+    node: usize,
+    carrier: usize,
+    bar: Bar,
+    layers: &mut [u8],
+) -> Sought
+    requires { ⌜ Layered width height h (now layers) × (start < width * height) ⌝ }
+    requires { ⌜ Falls capacity (now columns) node ⌝ }
+    ensures { λ r. ⌜ SoughtRoute (lentHall width height (now (hall .entry))) (boundBy capacity (now (columns .entry)) node carrier bar) start goal h (now (layers .entry)) (now (layers .exit)) r ⌝ }
+{
+    marks::mark_all(
+        layers,
+        width,
+        height,
+        h,
+        columns,
+        capacity,
+        node,
+        carrier,
+        bar,
+    );
+    fill(hall, width, height, goal, h, layers);
+    let level = level_at(layers, start);
+    if level == NO_WAY {
+        return Sought::Nothing;
+    }
+    Sought::Cost(level)
+}
+
+// ---- the route, read off the layers
+
+// May the carrier go from v to w between t and t + 1? The records are asked only where a barred crossing starts.
+fn may_go(
+    columns: &[u16],
+    capacity: usize,
+    node: usize,
+    carrier: usize,
+    bar: Bar,
+    starts: bool,
+    t: usize,
+    v: usize,
+    w: usize,
+) -> bool
+    requires { ⌜ Falls capacity (now columns) node ⌝ }
+    ensures { λ r. ⌜ r ≡ mayGo starts (boundBy capacity (now (columns .entry)) node carrier bar) t v w ⌝ }
+{
+    if !starts {
+        return true;
+    }
+    if records::bars_way(bar, t, v, w) {
+        return false;
+    }
+    if records::crossing_binds(columns, capacity, node, carrier, t, v, w) {
+        return false;
+    }
+    true
+}
+
+// A step to be taken: from `cell`, which has this row and column, at `step`; to a cell of the level `target` in the layer that starts at
+// `next`; and whether a barred crossing starts at `cell`.
+struct Turn {
+    step: usize,
+    cell: usize,
+    row: usize,
+    col: usize,
+    next: usize,
+    target: usize,
+    starts: bool,
+}
+
+// The cell that move m leads to, if it has the level wanted and no bar forbids the way.
+fn goes_by(
+    layers: &[u8],
+    width: usize,
+    height: usize,
+    columns: &[u16],
+    capacity: usize,
+    node: usize,
+    carrier: usize,
+    bar: Bar,
+    turn: Turn,
+    m: usize,
+) -> Landing
+    requires { ⌜ (width ≤ 16) × (height ≤ 16) × (turn .row < height) × (turn .col < width) × (m < 5) × (turn .next + width * height ≤ length (now layers)) ⌝ }
+    requires { ⌜ Falls capacity (now columns) node ⌝ }
+    ensures { λ r. ⌜ landed r ≡ keep (goesTo (now (layers .entry)) (turn .next) (turn .target) (turn .starts) (boundBy capacity (now (columns .entry)) node carrier bar) (turn .step) (turn .cell)) (landing width height (turn .row) (turn .col) m) ⌝ }
+{
+    let l = hall::landing_at(width, height, turn.row, turn.col, m);
+    match l {
+        Landing::Off => Landing::Off,
+        Landing::Cell(w) => {
+            if level_at(layers, turn.next + w) != turn.target {
+                return Landing::Off;
+            }
+            if may_go(
+                columns,
+                capacity,
+                node,
+                carrier,
+                bar,
+                turn.starts,
+                turn.step,
+                turn.cell,
+                w,
+            ) {
+                return Landing::Cell(w);
+            }
+            Landing::Off
+        }
+    }
+}
+
+// The first such cell in the order of moves, which is that of cells; the cell itself where there is none.
+fn next_cell(
+    layers: &[u8],
+    width: usize,
+    height: usize,
+    columns: &[u16],
+    capacity: usize,
+    node: usize,
+    carrier: usize,
+    bar: Bar,
+    turn: Turn,
+) -> usize
+    requires { ⌜ (width ≤ 16) × (height ≤ 16) × (turn .row < height) × (turn .col < width) × (turn .next + width * height ≤ length (now layers)) ⌝ }
+    requires { ⌜ Falls capacity (now columns) node ⌝ }
+    ensures { λ r. ⌜ r ≡ goneTo (now (layers .entry)) (turn .next) (turn .target) (turn .starts) (boundBy capacity (now (columns .entry)) node carrier bar) (turn .step) (turn .cell) (reachFrom width height (turn .row) (turn .col)) ⌝ }
+{
+    let mut m = 0;
+    while m < MOVE_COUNT {
+        let l = goes_by(
+            layers,
+            width,
+            height,
+            columns,
+            capacity,
+            node,
+            carrier,
+            bar,
+            turn,
+            m,
+        );
+        match l {
+            Landing::Cell(w) => {
+                return w;
+            }
+            Landing::Off => {}
+        }
+        m += 1;
+    }
+    turn.cell
+}
+
+fn one_less(n: usize) -> usize
+    ensures { λ r. ⌜ r ≡ n - 1 ⌝ }
+{
+    if n == 0 { 0 } else { n - 1 }
+}
+
+// The cell at t + 1 of the best way on from v at t.
+fn step_on(
+    layers: &[u8],
+    width: usize,
+    height: usize,
+    columns: &[u16],
+    capacity: usize,
+    node: usize,
+    carrier: usize,
+    bar: Bar,
+    t: usize,
+    v: usize,
+) -> usize
+    requires { ⌜ (1 ≤ width) × (width ≤ 16) × (height ≤ 16) × (v < width * height) × (t < 63) × ((t + 1) * (width * height) + width * height ≤ length (now layers)) ⌝ }
+    requires { ⌜ Falls capacity (now columns) node ⌝ }
+    ensures { λ r. ⌜ r ≡ goneTo (now (layers .entry)) ((t + 1) * (width * height)) (getD (now (layers .entry)) (t * (width * height) + v) 0 % 128 - 1) (leb 128 (getD (now (layers .entry)) (t * (width * height) + v) 0)) (boundBy capacity (now (columns .entry)) node carrier bar) t v (reachFrom width height (v / width) (v % width)) ⌝ }
+{
+    let size = width * height;
+    let byte = layers[t * size + v] as usize;
+    let turn = Turn {
+        step: t,
+        cell: v,
+        row: v / width,
+        col: v % width,
+        next: (t + 1) * size,
+        target: one_less(byte % 128),
+        starts: CROSSING <= byte,
+    };
+    next_cell(
+        layers,
+        width,
+        height,
+        columns,
+        capacity,
+        node,
+        carrier,
+        bar,
+        turn,
+    )
+}
+
+// Document 01, rule 2: the best route of a carrier under its bars, from layers that hold its levels, into a stretch of h + 1 bytes. Where
+// there is none the stretch is left as it was.
+pub fn write_route(
+    hall: &[u8],
+    width: usize,
+    height: usize,
+    start: usize,
+    goal: usize,
+    h: usize,
+    columns: &[u16],
+    capacity: usize,
+    node: usize,
+    carrier: usize,
+    bar: Bar,
+    layers: &[u8],
+    stretch: &mut [u8],
+)
+    requires { ⌜ Layered width height h (now layers) × (start < width * height) × (length (now stretch) ≡ h + 1) ⌝ }
+    requires { ⌜ Falls capacity (now columns) node ⌝ }
+    requires { ⌜ Filled (lentHall width height (now hall)) (boundBy capacity (now columns) node carrier bar) goal h (now layers) ⌝ }
+    ensures { λ _. ⌜ now (stretch .exit) ≡ writtenRoute (routeFrom (lentHall width height (now (hall .entry))) (boundBy capacity (now (columns .entry)) node carrier bar) start goal h) (now (stretch .entry)) ⌝ }
+{
+    if level_at(layers, start) == NO_WAY {
+        return;
+    }
+    let mut v = start;
+    let mut t = 0;
+    while t < h {
+        stretch[t] = v as u8;
+        v = step_on(
+            layers,
+            width,
+            height,
+            columns,
+            capacity,
+            node,
+            carrier,
+            bar,
+            t,
+            v,
+        );
+        t += 1;
+    }
+    stretch[h] = v as u8;
 }

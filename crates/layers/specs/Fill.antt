@@ -1,0 +1,90 @@
+-- How one layer is made of the next: a byte, which was a mark, becomes a level. Not a reader's business: the law `levelled-is-filled`
+-- ties it to the best way on.
+use Prim.Native.Nat.{ℕ, zero, suc, _+_, _*_, _/_, _%_, min, _≤_, _<_}
+use mathlib.Core.Path.{_≡_}
+use mathlib.Core.Bool.{Bool, true, false, not, _&&_}
+use mathlib.Core.List.{List, [], _∷_, map}
+use lib.Dec.{eqb}
+use lib.ListN.{length, getD}
+use Rattle.lists.specs.Lists.{range, each}
+use Rattle.hall.specs.Hall.{Hall, size, isOpen}
+use Rattle.hall.specs.Moves.{landing, moveCount}
+use Rattle.routes.specs.Route.{stepCost}
+use Rattle.marks.specs.Marks.{SameFrom}
+use Rattle.layers.specs.Layers.{crossingStarts}
+
+-- the hall of the bytes that are lent
+abbrev pub lentHall : ℕ → ℕ → List ℕ → Hall
+lentHall width height bytes = record { width = width; height = height; bytes = bytes }
+
+-- the level of cell w in the layer that starts at `next`
+unfoldable pub levelIn : List ℕ → ℕ → ℕ → ℕ
+levelIn layers next w = getD layers (next + w) 0 % 128
+
+-- ---- one byte
+
+unfoldable pub leastOf : List ℕ → ℕ
+leastOf [] = 127
+leastOf (c ∷ cs) = min c (leastOf cs)
+
+-- the binary digits of a mark are the moves that a bar forbids
+unfoldable pub halves : ℕ → ℕ → ℕ
+halves zero mark = mark
+halves (suc m) mark = halves m mark / 2
+
+unfoldable pub odd : ℕ → Bool
+odd n = eqb (n % 2) 1
+
+unfoldable pub unless : Bool → List ℕ → List ℕ
+unless true ws = []
+unless false ws = ws
+
+-- the cells that the other moves lead to
+unfoldable pub turnsBy : ℕ → ℕ → ℕ → ℕ → ℕ → List ℕ
+turnsBy width height row col mark = each (λ m. unless (odd (halves m mark)) (landing width height row col m)) (range 0 moveCount)
+
+unfoldable pub afterStep : Bool → ℕ → ℕ
+afterStep onGoal least = elim (eqb least 127) [ true ↦ 127 | false ↦ stepCost onGoal least ]
+
+-- a cell from which there may be a way: open, and not barred
+unfoldable pub mayBegin : Hall → ℕ → ℕ → Bool
+mayBegin hall v mark = isOpen hall v && not (eqb mark 255)
+
+-- the level of cell v with this mark, where `onward` gives the levels one step later; and at the horizon
+unfoldable pub madeLevel : Hall → ℕ → (ℕ → ℕ) → ℕ → ℕ → ℕ
+madeLevel hall goal onward v mark =
+    elim (mayBegin hall v mark) [
+      | true ↦ afterStep (eqb v goal) (leastOf (map onward (turnsBy (hall .width) (hall .height) (v / hall .width) (v % hall .width) mark)))
+      | false ↦ 127
+    ]
+
+unfoldable pub lastLevel : Hall → ℕ → ℕ → ℕ → ℕ
+lastLevel hall goal v mark = elim (mayBegin hall v mark && eqb v goal) [ true ↦ 0 | false ↦ 127 ]
+
+-- ---- many bytes
+
+-- from base on, the bytes lo to hi - 1 are made of their marks, and no other has changed
+pub record Made (base lo hi : ℕ) (byte : ℕ → ℕ → ℕ) (before after : List ℕ) : Type 0 where
+  pub long : length after ≡ length before
+  pub made : (v : ℕ) → lo ≤ v → v < hi → getD after (base + v) 0 ≡ byte v (getD before (base + v) 0)
+  pub under : (x : ℕ) → x < base + lo → getD after x 0 ≡ getD before x 0
+  pub over : (x : ℕ) → base + hi ≤ x → getD after x 0 ≡ getD before x 0
+
+unfoldable pub madeByte : Hall → ℕ → List ℕ → ℕ → ℕ → ℕ → ℕ
+madeByte hall goal layers next v mark = madeLevel hall goal (levelIn layers next) v mark + crossingStarts mark
+
+unfoldable pub lastByte : Hall → ℕ → ℕ → ℕ → ℕ
+lastByte hall goal v mark = lastLevel hall goal v mark + crossingStarts mark
+
+-- the layers from step t to the horizon h, and no others, are made of their marks, each of the next
+pub record MadeFrom (hall : Hall) (goal h t : ℕ) (marks layers : List ℕ) : Type 0 where
+  pub long : length layers ≡ length marks
+  pub made : (s v : ℕ) → t ≤ s → s < h → v < size hall → getD layers (s * size hall + v) 0 ≡ madeByte hall goal layers ((s + 1) * size hall) v (getD marks (s * size hall + v) 0)
+  pub under : (x : ℕ) → x < t * size hall → getD layers x 0 ≡ getD marks x 0
+  pub over : (x : ℕ) → h * size hall ≤ x → getD layers x 0 ≡ getD marks x 0
+
+-- all layers are made of their marks
+pub record Levelled (hall : Hall) (goal h : ℕ) (marks layers : List ℕ) : Type 0 where
+  pub last : (v : ℕ) → v < size hall → getD layers (h * size hall + v) 0 ≡ lastByte hall goal v (getD marks (h * size hall + v) 0)
+  pub made : (t v : ℕ) → t < h → v < size hall → getD layers (t * size hall + v) 0 ≡ madeByte hall goal layers ((t + 1) * size hall) v (getD marks (t * size hall + v) 0)
+  pub kept : SameFrom ((h + 1) * size hall) marks layers
