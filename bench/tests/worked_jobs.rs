@@ -1,0 +1,76 @@
+//! Document 01, "Jobs worked by hand": "Cells all open; k is 0 and N is 128
+//! where not given", on both yardsticks.
+
+use bench::compare::planned;
+use bench::task::{PlanTask, Tables, Told};
+use bench::yardstick::{BY_CELL, BY_LAYER, OPEN};
+
+fn job(width: usize, height: usize, carriers: &[u8], h: usize) -> PlanTask {
+    PlanTask {
+        hall: vec![OPEN; width * height],
+        width,
+        height,
+        carriers: carriers.to_vec(),
+        k: 0,
+        h,
+        n: 128,
+    }
+}
+
+/// What both yardsticks tell, and the tables afterwards.
+fn solved(task: &PlanTask) -> (Told, Tables) {
+    let solved = planned(&BY_CELL, task);
+    assert_eq!(solved, planned(&BY_LAYER, task));
+    solved
+}
+
+fn told(task: &PlanTask) -> Told {
+    solved(task).0
+}
+
+fn routes(task: &PlanTask) -> Vec<u8> {
+    solved(task).1.output[..task.stretch_len()].to_vec()
+}
+
+#[test]
+fn crossing_in_a_square() {
+    let square = job(3, 3, &[3, 5, 1, 7], 4);
+    let three = PlanTask { n: 3, ..square };
+    assert_eq!(told(&three), [0, 5, 3, 0, 0]);
+    assert_eq!(routes(&three), [3, 3, 4, 5, 5, 1, 4, 7, 7, 7]);
+    let two = PlanTask { n: 2, ..three };
+    assert_eq!(told(&two), [9, 0, 2, 0, 0]);
+    let delayed = PlanTask { k: 1, n: 3, ..two };
+    assert_eq!(told(&delayed), [0, 6, 3, 0, 0]);
+    assert_eq!(routes(&delayed), [3, 0, 1, 2, 5, 1, 4, 7, 7, 7]);
+}
+
+#[test]
+fn one_carrier() {
+    assert_eq!(told(&job(3, 1, &[0, 2], 2)), [0, 2, 1, 0, 0]);
+    assert_eq!(told(&job(3, 1, &[0, 2], 1)), [8, 0, 0, 0, 0]);
+    assert_eq!(told(&job(1, 1, &[0, 0], 0)), [0, 0, 1, 0, 0]);
+}
+
+#[test]
+fn head_on() {
+    assert_eq!(told(&job(3, 1, &[0, 2, 2, 0], 2)), [8, 0, 1, 0, 0]);
+    assert_eq!(told(&job(2, 1, &[0, 1, 1, 0], 1)), [8, 0, 1, 0, 0]);
+}
+
+#[test]
+fn one_behind_the_other() {
+    let row = job(3, 1, &[0, 1, 1, 2], 1);
+    assert_eq!(told(&row), [0, 2, 1, 0, 0]);
+    let delayed = PlanTask { k: 1, ..row };
+    assert_eq!(told(&delayed), [8, 0, 1, 0, 0]);
+    let longer = PlanTask { h: 2, ..delayed };
+    assert_eq!(told(&longer), [0, 3, 2, 0, 0]);
+    assert_eq!(routes(&longer), [0, 0, 1, 1, 2, 2]);
+}
+
+#[test]
+fn past_a_carrier_on_its_goal() {
+    let [number, sum, ..] = told(&job(4, 2, &[6, 2, 0, 3], 3));
+    assert_eq!((number, sum), (0, 6));
+}
