@@ -1,19 +1,18 @@
 -- The plan check passes lawful routes exactly when they are safe: on them the route check finds no wrong place, and the meeting check
 -- finds nothing exactly if no two carriers meet or swap, which is to survive every pattern of holds. Assumes nothing.
-use Prim.Native.Nat.{ℕ, zero, suc, _+_, _-_, _*_, _≤_, _<_}
+use Prim.Native.Nat.{ℕ, _+_, _-_, _*_, _≤_, _<_}
 use native.Mathlib.Omega.{arith}
 use native.Mathlib.Nat.{le-refl, mul-le-mul-right}
-use native.Mathlib.Numerals.{add-one}
-use mathlib.Core.Path.{_≡_, refl, sym, ap, ap₂, subst, _∙_}
+use mathlib.Core.Path.{_≡_, refl, sym, ap, ap₂, _∙_}
 use mathlib.Core.Logic.{_↔_}
 use mathlib.Core.Bool.{Bool, true, false, not, _&&_, _||_}
 use mathlib.Core.List.{List, map, List·Memᴰ}
 use mathlib.Core.Option.{Option, none, some}
 use borrow.Author.Tests.{le-ltb, ltb-false}
-use lib.Dec.{T, eqb, ltb}
-use lib.ListN.{length, take, drop, getD, length-take, length-drop}
+use lib.Dec.{eqb, ltb}
+use lib.ListN.{length, take, drop, length-take, length-drop}
 use lib.Seq.{getD-take, getD-drop}
-use Rattle.lists.specs.Lists.{range, each, firstOf}
+use Rattle.lists.specs.Lists.{range, each}
 use Rattle.lists.proofs.Bools.{is-false, of-false}
 use Rattle.lists.proofs.Members.{FirstFact, first-fact, has-each, each-has, has-map, map-has, has-range, range-has}
 use Rattle.job.specs.Job.{Job, slipOf, mostSlip, planLength, planCell}
@@ -23,14 +22,13 @@ use Rattle.job.specs.declared.Verdict.the-variants.{Accepted, WrongGrid, WrongB
 use Rattle.routes.specs.Route.{Lawful, cellOf, routeIn}
 use Rattle.routes.specs.Check.{Place, places, wrongMove, wrongArrival, wrongAt, firstWrongPlace, placeVerdict, planVerdict, routeVerdict, routeTold}
 use Rattle.routes.specs.declared.RouteVerdict.{RouteVerdict}
-use Rattle.routes.specs.declared.RouteVerdict.the-variants.{Lawful as LawfulPlan, Refused, Short, Wrong}
+use Rattle.routes.specs.declared.RouteVerdict.the-variants.{Lawful as LawfulPlan, Refused, Short}
 use Rattle.routes.proofs.Lawful.{right-everywhere-lawful}
-use Rattle.clashes.specs.Clash.{Apart}
 use Rattle.clashes.specs.Check.{planClash, compared, meetingVerdict, meetingTold, clashTold}
 use Rattle.clashes.specs.declared.Clash.{Clash}
 use Rattle.clashes.specs.declared.Clash.the-variants.{Clear, Meeting, Swap}
 use Rattle.clashes.specs.declared.MeetingVerdict.{MeetingVerdict}
-use Rattle.clashes.specs.declared.MeetingVerdict.the-variants.{Refused as RefusedJob, Short as ShortPlan, Compared}
+use Rattle.clashes.specs.declared.MeetingVerdict.the-variants.{Compared}
 use Rattle.clashes.proofs.Chosen.{clear-apart, apart-clear}
 use Rattle.clashes.proofs.Holds.{apart-survives, survives-apart}
 use Rattle.checks.specs.Demand.{LawfulRoutes, Passes, Safe}

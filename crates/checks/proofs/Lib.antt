@@ -1,1 +1,5 @@
 pub mod Demand
+pub mod WalkCode
+pub mod Settled
+pub mod PlanCheck
+pub mod Broken

@@ -1,0 +1,176 @@
+-- What the code of the two checks rests on: the bytes that it reads stand in the plan, and each way through it gives what the
+-- definition gives where its tests came out so. Assumes nothing.
+use Prim.Native.Nat.{ℕ, _+_, _-_, _*_, _≤_, _<_}
+use native.Mathlib.Omega.{arith}
+use mathlib.Core.Path.{_≡_, refl, sym, ap, subst, _∙_}
+use mathlib.Core.Bool.{Bool, true, false, not}
+use mathlib.Core.List.{List, [], _∷_, map}
+use mathlib.Core.Option.{Option, none, some}
+use lib.Dec.{eqb, ltb}
+use lib.ListN.{length, getD}
+use borrow.Author.Tests.{eq-eqb, ne-eqb, ltb-false}
+use denote.Enum.Declared.{declared, tagOf}
+use types.Run.{OneOf, miss}
+use Rattle.lists.specs.Lists.{range, each, anyOf, firstOf}
+use Rattle.hall.specs.Moves.{mayFollow}
+use Rattle.job.specs.Job.{Job, planLength, planCell, mostDelay, mostHorizon, mostCarriers}
+use Rattle.job.specs.Team.{jobOf}
+use Rattle.job.specs.Verdict.{judge, judgeWith, ifAccepted}
+use Rattle.job.specs.declared.Team.{Team}
+use Rattle.job.specs.declared.Verdict.{Verdict}
+use Rattle.job.specs.declared.Verdict.the-variants.{Accepted, WrongGrid, WrongBytes, WrongLimits, WrongCount, WrongEnds, SharedEnds}
+use Rattle.job.proofs.Verdict.{enum}
+use Rattle.job.proofs.Accepted.{accepted-facts}
+use Rattle.routes.specs.Check.{Place, places, wrongMove, wrongArrival, wrongAt, firstWrongPlace, placeVerdict, planVerdict, routeVerdict}
+use Rattle.routes.specs.declared.RouteVerdict.the-variants.{Lawful, Refused, Short, Wrong}
+use Rattle.clashes.specs.Check.{planClash, compared, meetingVerdict}
+use Rattle.clashes.specs.Find.{firstClash, Whole, Within}
+use Rattle.clashes.specs.declared.Clash.{Clash}
+use Rattle.clashes.specs.declared.MeetingVerdict.the-variants.{Refused as RefusedJob, Short as ShortPlan, Compared}
+use Rattle.clashes.proofs.Compared.{whole-within}
+use Rattle.checks.specs.Walk.{Limits, Ready, placeOf, wrongPlace, placesOf, placeFound, comparedAt}
+use Rattle.checks.specs.declared.Found.{Found}
+use Rattle.checks.specs.declared.Found.the-variants.{Nowhere, Place as PlaceAt}
+
+-- ---- bytes
+
+pub byte-within : (job : Job) (plan : List ℕ) → Ready job plan → (i t : ℕ) → i < job .count → t ≤ job .horizon → Within plan (job .horizon) i t
+byte-within job plan r =
+    whole-within plan (job .count) 0 (job .horizon)
+    (record { few = r .limits .countMost; slow = omega arith; short = r .limits .horizonMost; whole = r .whole })
+
+-- ---- one place of a route
+
+module _ (job : Job) (plan : List ℕ) (i t : ℕ) where
+  pub arrival-start : t ≡ 0 → not (eqb (planCell job plan i t) (job .startOf i)) ≡ wrongArrival job i (planCell job plan i) t
+  unfolding wrongArrival
+  arrival-start e = rw (e, wrongArrival)
+
+  pub arrival-move :
+      (from to : ℕ)
+      → from ≡ getD plan (i * (job .horizon + 1) + t - 1) 0
+      → to ≡ planCell job plan i t
+      → (t ≡ 0 → ⊥)
+      → (r : Bool)
+      → r ≡ anyOf (eqb to) (mayFollow (job .hall) from)
+      → not r ≡ wrongArrival job i (planCell job plan i) t
+  unfolding wrongArrival wrongMove
+  arrival-move from to f e n r told =
+      let before : i * (job .horizon + 1) + t - 1 ≡ i * (job .horizon + 1) + (t - 1) = omega arith in
+      rw (told, f, e, before, wrongArrival, ne-eqb t 0 n)
+
+  module _ (arrival : Bool) (told : arrival ≡ wrongArrival job i (planCell job plan i) t) where
+    pub at-arrival : arrival ≡ true → true ≡ wrongAt job i (planCell job plan i) t
+    unfolding wrongAt
+    at-arrival e = simp (← told, e)
+
+    pub at-goal : arrival ≡ false → t + 1 ≡ job .horizon + 1 → not (eqb (planCell job plan i t) (job .goalOf i)) ≡ wrongAt job i (planCell job plan i) t
+    unfolding wrongAt
+    at-goal e last = let h : t ≡ job .horizon = omega arith in simp (← told, e, eq-eqb t (job .horizon) h)
+
+    pub at-inside : arrival ≡ false → (t + 1 ≡ job .horizon + 1 → ⊥) → false ≡ wrongAt job i (planCell job plan i) t
+    unfolding wrongAt
+    at-inside e inside = simp (← told, e, ne-eqb t (job .horizon) (λ (h : t ≡ job .horizon). inside (omega arith)))
+
+-- ---- the places, as the loops go through them
+
+pub steps-from : (h i : ℕ) → placesOf h i ≡ map (placeOf i) (range 0 (h + 1 - 0))
+unfolding placesOf
+steps-from h i = let e : h + 1 - 0 ≡ h + 1 = omega arith in rw e
+
+pub places-from : (job : Job) (plan : List ℕ) → firstWrongPlace job (planCell job plan) ≡ firstOf (wrongPlace job plan) (each (placesOf (job .horizon)) (range 0 (job .count - 0)))
+unfolding firstWrongPlace places placesOf wrongPlace
+places-from job plan = let e : job .count - 0 ≡ job .count = omega arith in rw e
+
+-- ---- the checks of an accepted job; s is what the test of the plan's length said
+
+module _ (job : Job) (plan : List ℕ) (s : Bool) (told : s ≡ ltb (length plan) (planLength job)) where
+  pub plan-short : s ≡ true → Short ≡ planVerdict job plan
+  unfolding planVerdict
+  plan-short e = rw (planVerdict, ← told, e)
+
+  pub plan-whole : s ≡ false → planLength job ≤ length plan
+  plan-whole e = ltb-false (length plan) (planLength job) (sym told ∙ e)
+
+  pub plan-walked : s ≡ false → placeVerdict (firstWrongPlace job (planCell job plan)) ≡ planVerdict job plan
+  unfolding planVerdict
+  plan-walked e = rw (planVerdict, ← told, e)
+
+module _ (f : Found) (o : Option Place) (told : placeFound f ≡ o) where
+  pub found-nowhere : f ≡ Nowhere → o ≡ none
+  unfolding placeFound
+  found-nowhere e = sym told ∙ ap placeFound e
+
+  pub found-place : (i t : ℕ) → f ≡ PlaceAt i t → o ≡ some (placeOf i t)
+  unfolding placeFound
+  found-place i t e = sym told ∙ ap placeFound e
+
+pub none-lawful : (o : Option Place) → o ≡ none → Lawful ≡ placeVerdict o
+unfolding placeVerdict
+none-lawful o e = rw e
+
+pub some-wrong : (o : Option Place) (i t : ℕ) → o ≡ some (placeOf i t) → Wrong i t ≡ placeVerdict o
+unfolding placeVerdict
+some-wrong o i t e = rw e
+
+module _ (plan : List ℕ) (count k h : ℕ) (s : Bool) (told : s ≡ ltb (length plan) (count * (h + 1))) where
+  pub compared-short : s ≡ true → ShortPlan ≡ comparedAt plan count k h
+  unfolding comparedAt
+  compared-short e = rw (comparedAt, ← told, e)
+
+  pub compared-whole : count ≤ mostCarriers → k ≤ mostDelay → h ≤ mostHorizon → s ≡ false → Whole plan count k h
+  compared-whole few slow early e = record { few = few; slow = slow; short = early; whole = ltb-false (length plan) (count * (h + 1)) (sym told ∙ e) }
+
+  pub compared-clash : s ≡ false → (c : Clash) → c ≡ firstClash plan count k h → Compared c ≡ comparedAt plan count k h
+  unfolding comparedAt
+  compared-clash e c found = rw (comparedAt, ← told, e, found)
+
+-- ---- the checks; v is what checks 1 to 6 said
+
+goes-on : {A : Type 0} (v : Verdict) (go stop : A) → v ≡ Accepted → go ≡ ifAccepted v go stop
+unfolding ifAccepted
+goes-on v go stop e = rw e
+
+stops : {A : Type 0} (v : Verdict) (go stop : A) → (v ≡ Accepted → ⊥) → stop ≡ ifAccepted v go stop
+unfolding ifAccepted
+stops Accepted go stop n = absurd (n refl)
+stops WrongGrid go stop n = refl
+stops WrongBytes go stop n = refl
+stops WrongLimits go stop n = refl
+stops WrongCount go stop n = refl
+stops (WrongEnds i) go stop n = refl
+stops (SharedEnds i j) go stop n = refl
+
+-- the verdicts but `Accepted`, as a `match` reads them
+abbrev refusals : List ℕ
+refusals = 1 ∷ 2 ∷ 3 ∷ 4 ∷ 5 ∷ 6 ∷ []
+
+not-accepted : (v : Verdict) → OneOf refusals (tagOf (declared enum) v) → v ≡ Accepted → ⊥
+not-accepted v one e = miss refusals 0 tt (subst (λ (w : Verdict). OneOf refusals (tagOf (declared enum) w)) e one)
+
+pub accepted-limits : (job : Job) (v : Verdict) → v ≡ judgeWith false job → v ≡ Accepted → Limits job × (job .delay ≤ mostDelay)
+accepted-limits job v told e =
+    let f = accepted-facts false job (sym told ∙ e) in
+    (record { widthLeast = f .widthLeast; widthMost = f .widthMost; heightMost = f .heightMost; countMost = f .countMost; horizonMost = f .horizonMost }, f .delayMost)
+
+module _ (job : Job) (plan : List ℕ) (v : Verdict) (told : v ≡ judgeWith false job) where
+  pub routes-accepted : v ≡ Accepted → planVerdict job plan ≡ routeVerdict job plan
+  unfolding routeVerdict judge
+  routes-accepted e = goes-on (judgeWith false job) (planVerdict job plan) (Refused (judgeWith false job)) (sym told ∙ e)
+
+  pub routes-refused : OneOf refusals (tagOf (declared enum) v) → Refused v ≡ routeVerdict job plan
+  unfolding routeVerdict judge
+  routes-refused one = rw (← told) (stops v (planVerdict job plan) (Refused v) (not-accepted v one))
+
+  pub meetings-accepted : v ≡ Accepted → comparedAt plan (job .count) (job .delay) (job .horizon) ≡ meetingVerdict job plan
+  unfolding meetingVerdict judge comparedAt compared planClash
+  meetings-accepted e = goes-on (judgeWith false job) (compared job plan) (RefusedJob (judgeWith false job)) (sym told ∙ e)
+
+  pub meetings-refused : OneOf refusals (tagOf (declared enum) v) → RefusedJob v ≡ meetingVerdict job plan
+  unfolding meetingVerdict judge
+  meetings-refused one = rw (← told) (stops v (compared job plan) (RefusedJob v) (not-accepted v one))
+
+-- the route check does not look at k
+pub routes-any-delay : (width height : ℕ) (bytes : List ℕ) (team : Team) (k h : ℕ) (plan : List ℕ) → planVerdict (jobOf width height bytes team 0 h) plan ≡ planVerdict (jobOf width height bytes team k h) plan
+unfolding planVerdict firstWrongPlace wrongAt wrongArrival
+routes-any-delay width height bytes team k h plan = refl
