@@ -10,6 +10,7 @@ use lib.ListN.{length, take, drop}
 use lib.Seq.{paste}
 use Rattle.job.specs.Job.{Job, planLength}
 use Rattle.routes.specs.declared.Bar.{Bar}
+use Rattle.routes.specs.declared.Bar.the-variants.{Free, Stay, Cross}
 use Rattle.records.specs.Columns.{isBar}
 use Rattle.marks.specs.Marks.{boundBy}
 use Rattle.marks.proofs.Places.{same-from}
@@ -19,12 +20,24 @@ use Rattle.tables.specs.Post.{Room, BarFits, Fitting, Recorded}
 use Rattle.tables.proofs.Costs.{part-within}
 use Rattle.children.specs.declared.Task.{Task}
 use Rattle.children.specs.declared.Grown.the-variants.{Nothing, Full}
-use Rattle.children.specs.Steps.{jobOn, Ready, Kept, ChildFact}
+use Rattle.children.specs.Steps.{jobOn, Ready, Kept, BarSet, ChildFact}
 use Rattle.children.specs.Children.{routeOn, RouteSought, putRoute, sumIn, ChildDue, ChildMade}
 use Rattle.children.proofs.Keeping.{stretch-within, put-kept, recorded-kept, ready-still}
 use Rattle.children.proofs.Routing.{not-found, was-found}
 use Rattle.children.proofs.Seeking.{sum-in, sum-small}
 use Rattle.children.proofs.Grows.{copied-keeps, now-keeps, grown, not-grown, no-record}
+
+pub set-fits : (bar : Bar) → BarSet bar → BarFits bar
+unfolding BarSet BarFits
+set-fits Free h = tt
+set-fits (Stay v a b) h = h
+set-fits (Cross u v t) h = h
+
+pub set-bars : (bar : Bar) → BarSet bar → isBar bar ≡ true
+unfolding BarSet isBar
+set-bars Free h = absurd h
+set-bars (Stay v a b) h = refl
+set-bars (Cross u v t) h = refl
 
 -- ---- the child takes its record
 

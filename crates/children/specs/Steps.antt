@@ -8,6 +8,8 @@ use lib.ListN.{length, getD}
 use Rattle.job.specs.Job.{Job}
 use Rattle.job.specs.Team.{jobOf}
 use Rattle.routes.specs.Bars.{Barred}
+use Rattle.routes.specs.declared.Bar.{Bar}
+use Rattle.routes.specs.declared.Bar.the-variants.{Free, Stay, Cross}
 use Rattle.marks.specs.Marks.{SameFrom}
 use Rattle.tree.specs.Tree.{root, child}
 use Rattle.tables.specs.State.{nodeAt, live, Sound}
@@ -41,6 +43,12 @@ pub record Kept (task : Task) (bytes columns plans layers columns' plans' layers
   pub columns-kept : SameFrom (columnsLength (task .capacity)) columns columns'
   pub plans-kept : SameFrom (plansLength (jobOn task bytes) (task .capacity)) plans plans'
   pub layers-kept : SameFrom (layersLength (jobOn task bytes)) layers layers'
+
+-- a bar of rule 6, whose numbers fit a record
+unfoldable pub BarSet : Bar → Type 0
+BarSet Free = ⊥
+BarSet (Stay v a b) = (v < 65536) × (a < 65536) × (b < 65536)
+BarSet (Cross u v t) = (u < 65536) × (v < 65536) × (t < 65536)
 
 -- one child of node x with bar b, after rule 7
 unfoldable pub ChildFact : Job → ℕ → ℕ → Barred → ℕ → List ℕ → List ℕ → List ℕ → List ℕ → Grown → Type 0

@@ -4,15 +4,13 @@ use layers::Sought;
 use routes::Bar;
 ghost use Prim.Native.Nat.{_+_, _*_, _≤_, _<_};
 ghost use mathlib.Core.Path.{_≡_};
-ghost use mathlib.Core.Bool.{true};
 ghost use lib.ListN.{length};
 ghost use Rattle.job.specs.Job.{planLength};
 ghost use Rattle.routes.specs.declared.Bar.the-variants.{Free};
-ghost use Rattle.records.specs.Columns.{barAt, isBar, Falls};
-ghost use Rattle.tables.specs.Post.{BarFits};
+ghost use Rattle.records.specs.Columns.{barAt, Falls};
 ghost use Rattle.tables.specs.State.{Sound};
 ghost use Rattle.tables.specs.Tables.{plansLength};
-ghost use Rattle.children.specs.Steps.{jobOn, Ready, Kept, ChildFact, RootFact};
+ghost use Rattle.children.specs.Steps.{jobOn, Ready, Kept, BarSet, ChildFact, RootFact};
 ghost use Rattle.children.specs.Children.{routeOn, SoughtIn, RouteSought, putRoute, sumIn, ChildDue, ChildMade, FreeRoute, FreeRoutes};
 
 // An accepted job's numbers and carriers, and N: what a search works on beside the hall and the tables.
@@ -160,7 +158,7 @@ pub fn add_child(
     plans: &mut [u8],
     layers: &mut [u8],
 ) -> Grown
-    requires { ⌜ Ready task (now hall) (now layers) ⌝ ∗ ⌜ Sound (jobOn task (now hall)) (task .capacity) (now columns) (now plans) made ⌝ ∗ ⌜ (node < made) × (carrier < task .team .count) ⌝ ∗ ⌜ BarFits bar ⌝ ∗ ⌜ isBar bar ≡ true ⌝ }
+    requires { ⌜ Ready task (now hall) (now layers) ⌝ ∗ ⌜ Sound (jobOn task (now hall)) (task .capacity) (now columns) (now plans) made ⌝ ∗ ⌜ (node < made) × (carrier < task .team .count) ⌝ ∗ ⌜ BarSet bar ⌝ }
     ensures kept { λ r. ⌜ Kept task (now (hall .entry)) (now (columns .entry)) (now (plans .entry)) (now (layers .entry)) (now (columns .exit)) (now (plans .exit)) (now (layers .exit)) ⌝ }
     ensures grown { λ r. ⌜ ChildFact (jobOn task (now (hall .entry))) (task .capacity) node (record { carrier = carrier; bar = bar }) made (now (columns .entry)) (now (plans .entry)) (now (columns .exit)) (now (plans .exit)) r ⌝ }
 {

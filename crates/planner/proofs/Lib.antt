@@ -1,3 +1,9 @@
+pub mod Answers
 pub mod Broken
+pub mod Cells
+pub mod Children
 pub mod Promises
 pub mod Stars
+pub mod Tails
+pub mod Turns
+pub mod Written

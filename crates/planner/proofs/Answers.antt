@@ -1,0 +1,178 @@
+-- The planner's answer by its checks: refused, a table too short, or what the search gives; and what checks 1 to 7 show.
+-- Assumes nothing.
+use Prim.Native.Nat.{ℕ, _+_, _*_, _≤_, _<_}
+use native.Mathlib.Omega.{arith}
+use native.Mathlib.Nat.{mul-le-mul}
+use mathlib.Core.Path.{_≡_, refl, sym, ap, subst, _∙_}
+use mathlib.Core.Bool.{Bool, true, false}
+use mathlib.Core.List.{List, [], _∷_}
+use borrow.Author.Tests.{lt-ltb, le-ltb, ltb-false, eqb-false, ltb-true}
+use denote.Enum.Declared.{tagOf}
+use types.Run.{OneOf, miss}
+use lib.Dec.{T, ltb, eqb}
+use lib.ListN.{length, getD}
+use Rattle.lists.proofs.Bools.{is-true, and-both}
+use Rattle.hall.specs.Hall.{Hall, size, isOpen}
+use Rattle.hall.proofs.Tests.{or-fails}
+use Rattle.job.specs.Job.{Job, wrongCapacity}
+use Rattle.job.specs.Verdict.{judgeWith, ifAccepted}
+use Rattle.job.specs.declared.Verdict.{Verdict}
+use Rattle.job.specs.declared.Verdict.the-variants.{Accepted, WrongGrid, WrongBytes, WrongLimits, WrongCount, WrongEnds, SharedEnds}
+use Rattle.job.proofs.Accepted.{Facts, accepted-facts}
+use Rattle.job.proofs.Verdict.{the-type}
+use Rattle.tree.specs.Tree.{tree}
+use Rattle.tables.specs.Tables.{Tables, plansLength, layersLength, shortTable}
+use Rattle.children.specs.declared.Task.{Task}
+use Rattle.planner.specs.declared.Answer.{Answer}
+use Rattle.planner.specs.declared.Answer.the-variants.{Refused, Short}
+use Rattle.planner.specs.Answer.{searched, enough, planned}
+use Rattle.planner.specs.Post.{Planned}
+use Rattle.children.specs.Steps.{jobOn, Ready}
+use Rattle.planner.specs.Steps.{jobIn, Limits, Roomy, RanFact}
+use Rattle.planner.proofs.Promises.{planned-promised}
+
+-- ---- the tests of answer 7
+
+pub plans-small : (count h capacity : ℕ) → count ≤ 8 → h ≤ 63 → capacity ≤ 1024 → capacity * (count * (h + 1)) ≤ 524288
+plans-small count h capacity l k m = let n : h + 1 ≤ 64 = omega arith in mul-le-mul m (mul-le-mul l n)
+
+pub grid-small : (width height : ℕ) → width ≤ 16 → height ≤ 16 → width * height ≤ 256
+grid-small width height l k = mul-le-mul l k
+
+pub layers-small : (width height h : ℕ) → width ≤ 16 → height ≤ 16 → h ≤ 63 → (h + 1) * (width * height) ≤ 16384
+layers-small width height h l k m = let n : h + 1 ≤ 64 = omega arith in mul-le-mul n (grid-small width height l k)
+
+module _ (task : Task) (ts : Tables) where
+  pub short-columns : length (ts .columns) < 8 * task .capacity → true ≡ shortTable (jobIn task) (task .capacity) ts
+  unfolding shortTable
+  short-columns l = rw (lt-ltb _ _ l) refl
+
+  module _ (stretch : ℕ) (is : stretch ≡ task .team .count * (task .horizon + 1)) (columns-room : 8 * task .capacity ≤ length (ts .columns)) where
+    pub short-plans : length (ts .plans) < task .capacity * stretch → true ≡ shortTable (jobIn task) (task .capacity) ts
+    unfolding shortTable
+    short-plans l =
+        let k : length (ts .plans) < plansLength (jobIn task) (task .capacity) = rw is at l in
+        rw (le-ltb _ _ columns-room, lt-ltb _ _ k) refl
+
+    module _ (plans-room : task .capacity * stretch ≤ length (ts .plans)) where
+      room : plansLength (jobIn task) (task .capacity) ≤ length (ts .plans)
+      room = rw is at plans-room
+
+      pub short-layers : length (ts .layers) < (task .horizon + 1) * (task .width * task .height) → true ≡ shortTable (jobIn task) (task .capacity) ts
+      unfolding shortTable
+      short-layers l = rw (le-ltb _ _ columns-room, le-ltb _ _ room, lt-ltb _ _ l) refl
+
+      pub short-output : (task .horizon + 1) * (task .width * task .height) ≤ length (ts .layers) → ltb (length (ts .output)) stretch ≡ shortTable (jobIn task) (task .capacity) ts
+      unfolding shortTable
+      short-output l = rw (le-ltb _ _ columns-room, le-ltb _ _ room, le-ltb _ _ l, is) refl
+
+  -- the hall's bytes do not matter
+  pub short-any : (bytes : List ℕ) → shortTable (jobIn task) (task .capacity) ts ≡ shortTable (jobOn task bytes) (task .capacity) ts
+  unfolding shortTable
+  short-any bytes = refl
+
+  -- no table is too short
+  pub roomy : shortTable (jobIn task) (task .capacity) ts ≡ false → Roomy task (ts .columns) (ts .plans) (ts .layers) (ts .output)
+  unfolding shortTable
+  roomy e =
+      let (a, b) = or-fails _ _ e in
+      let (x, y) = or-fails _ _ a in
+      let (z, w) = or-fails _ _ b in
+      record { columns-room = ltb-false _ _ x; plans-room = ltb-false _ _ y; layers-room = ltb-false _ _ z; output-room = ltb-false _ _ w }
+
+-- ---- what checks 1 to 6 show
+
+capacity-right : (n : ℕ) → wrongCapacity n ≡ false → (1 ≤ n) × (n ≤ 1024)
+unfolding wrongCapacity
+capacity-right n e =
+    let (z, l) = or-fails (eqb n 0) (ltb 1024 n) e in
+    let some : n ≡ 0 → ⊥ = eqb-false n 0 z in
+    (omega (arith, some), ltb-false 1024 n l)
+
+inside-open : (hall : Hall) (v : ℕ) → T (isOpen hall v) → v < size hall
+unfolding isOpen
+inside-open hall v t = ltb-true v (size hall) (is-true (and-both (ltb v (size hall)) _ t .0))
+
+module _ (task : Task) (bytes : List ℕ) (v : Verdict) (wrongN : Bool) (is : v ≡ judgeWith wrongN (jobOn task bytes)) (of-n : wrongN ≡ wrongCapacity (task .capacity)) (yes-to : v ≡ Accepted) where
+  facts : Facts (wrongCapacity (task .capacity)) (jobOn task bytes)
+  facts = accepted-facts (wrongCapacity (task .capacity)) (jobOn task bytes) (ap (λ (b : Bool). judgeWith b (jobOn task bytes)) (sym of-n) ∙ sym is ∙ yes-to)
+
+  pub limits : Limits task
+  limits =
+      let f = facts in
+      record {
+        width-most = f .widthMost;
+        height-most = f .heightMost;
+        horizon-most = f .horizonMost;
+        count-most = f .countMost;
+        capacity-most = capacity-right (task .capacity) (f .capacity) .1;
+      }
+
+  pub ready : (layers : List ℕ) → layersLength (jobIn task) ≤ length layers → Ready task bytes layers
+  ready layers room =
+      let f = facts in
+      record {
+        width-least = f .widthLeast;
+        width-most = f .widthMost;
+        height-least = f .heightLeast;
+        height-most = f .heightMost;
+        bytes-long = f .bytesLength;
+        delay-most = f .delayMost;
+        horizon-most = f .horizonMost;
+        count-least = f .countLeast;
+        count-most = f .countMost;
+        capacity-least = capacity-right (task .capacity) (f .capacity) .0;
+        capacity-most = capacity-right (task .capacity) (f .capacity) .1;
+        starts-inside = λ i l. inside-open (jobOn task bytes .hall) (getD (task .team .starts) i 0) (f .startOpen i l);
+        layers-long = room;
+      }
+
+-- ---- the answer
+
+-- a verdict that the code's `if let` passes by
+refused : (v : Verdict) → OneOf (1 ∷ 2 ∷ 3 ∷ 4 ∷ 5 ∷ 6 ∷ []) (tagOf the-type v) → v ≡ Accepted → ⊥
+refused v k e =
+    miss (1 ∷ 2 ∷ 3 ∷ 4 ∷ 5 ∷ 6 ∷ []) 0 tt (subst (λ (w : Verdict). OneOf (1 ∷ 2 ∷ 3 ∷ 4 ∷ 5 ∷ 6 ∷ []) (tagOf the-type w)) e k)
+
+if-refused : {A : Type 0} (v : Verdict) (go stop : A) → (v ≡ Accepted → ⊥) → ifAccepted v go stop ≡ stop
+unfolding ifAccepted
+if-refused Accepted go stop n = absurd (n refl)
+if-refused WrongGrid go stop n = refl
+if-refused WrongBytes go stop n = refl
+if-refused WrongLimits go stop n = refl
+if-refused WrongCount go stop n = refl
+if-refused (WrongEnds i) go stop n = refl
+if-refused (SharedEnds i j) go stop n = refl
+
+module _ (job : Job) (capacity : ℕ) (ts : Tables) where
+  settled : (answer : Answer) (after : Tables) → answer ≡ planned job capacity ts .answer → after ≡ planned job capacity ts .tables → Planned job capacity ts answer after
+  settled answer after a b = record { told = a; tables = b; promised = rw (a, b) (planned-promised job capacity ts) }
+
+  too-short : shortTable job capacity ts ≡ true → enough job capacity ts ≡ record { answer = Short; tables = ts }
+  unfolding enough
+  too-short e = rw (e, enough) refl
+
+  long-enough : shortTable job capacity ts ≡ false → enough job capacity ts ≡ searched job capacity ts (tree job capacity)
+  unfolding enough
+  long-enough e = rw (e, enough) refl
+
+  module _ (v : Verdict) (wrongN : Bool) (is : v ≡ judgeWith wrongN job) (of-n : wrongN ≡ wrongCapacity capacity) where
+    judged : judgeWith (wrongCapacity capacity) job ≡ v
+    judged = ap (λ (b : Bool). judgeWith b job) (sym of-n) ∙ sym is
+
+    pub planned-refused : OneOf (1 ∷ 2 ∷ 3 ∷ 4 ∷ 5 ∷ 6 ∷ []) (tagOf the-type v) → Planned job capacity ts (Refused v) ts
+    unfolding planned
+    planned-refused k =
+        let e = if-refused (judgeWith (wrongCapacity capacity) job) (enough job capacity ts) (record { answer = Refused (judgeWith (wrongCapacity capacity) job); tables = ts }) (λ a. refused v k (sym judged ∙ a)) in
+        settled (Refused v) ts (rw (e, judged) refl) (rw e refl)
+
+    module _ (yes-to : v ≡ Accepted) where
+      is-enough : planned job capacity ts ≡ enough job capacity ts
+      unfolding planned ifAccepted
+      is-enough = let e : judgeWith (wrongCapacity capacity) job ≡ Accepted = judged ∙ yes-to in rw e refl
+
+      pub planned-short : (b : Bool) → b ≡ shortTable job capacity ts → b ≡ true → Planned job capacity ts Short ts
+      planned-short b e t = let s = is-enough ∙ too-short (sym e ∙ t) in settled Short ts (rw s refl) (rw s refl)
+
+      pub planned-ran : (b : Bool) → b ≡ shortTable job capacity ts → b ≡ false → (answer : Answer) (after : Tables) → RanFact job capacity ts answer after → Planned job capacity ts answer after
+      planned-ran b e t answer after f = let s = is-enough ∙ long-enough (sym e ∙ t) in settled answer after (rw s (f .told)) (rw s (f .left))

@@ -1,0 +1,128 @@
+-- The cells of a node in the bytes of its stretch, and rule 5's clash of them: the code reads the very cells that the node's routes have.
+-- A chosen clash names carriers and steps that there are. Assumes nothing.
+use Prim.Native.Nat.{ℕ, _+_, _-_, _*_, _≤_, _<_}
+use native.Mathlib.Omega.{arith}
+use native.Mathlib.Nat.{mul-le-mul}
+use mathlib.Core.Path.{_≡_, refl, sym, ap, subst, _∙_}
+use mathlib.Core.List.{List}
+use lib.ListN.{length, getD, take, drop}
+use lib.Seq.{getD-take, getD-drop}
+use Rattle.job.specs.Job.{Job, planLength, slipOf, mostSlip}
+use Rattle.routes.specs.Route.{cellOf, cost, routeIn}
+use Rattle.lists.specs.Lists.{sumTo}
+use Rattle.clashes.specs.Chosen.{chosen}
+use Rattle.clashes.specs.Find.{cellIn, firstClash}
+use Rattle.clashes.specs.declared.Clash.{Clash}
+use Rattle.clashes.specs.declared.Clash.the-variants.{Meeting, Swap}
+use Rattle.clashes.proofs.Chosen.{ChosenFact, chosen-fact}
+use Rattle.clashes.proofs.Same.{chosen-same}
+use Rattle.tree.specs.Plan.{cellsOf, total}
+use Rattle.tree.specs.Tree.{Node, clashOf}
+use Rattle.tables.specs.State.{routesIn, stretchAt, nodeAt, Sound}
+use Rattle.tables.proofs.Costs.{part-within, route-in, total-in}
+use Rattle.tables.proofs.Stretches.{route-at}
+use Rattle.planner.specs.declared.Bars.{Bars}
+use Rattle.children.specs.declared.Task.{Task}
+use Rattle.children.specs.Steps.{jobOn, Ready, BarSet}
+use Rattle.planner.specs.Steps.{jobIn, Placed, stayBars, crossBars, BarsFit}
+
+-- ---- small numbers
+
+pub stretch-small : (count h : ℕ) → count ≤ 8 → h ≤ 63 → count * (h + 1) ≤ 512
+stretch-small count h l k = let m : h + 1 ≤ 64 = omega arith in mul-le-mul l m
+
+pub placed : (task : Task) (bytes layers columns plans : List ℕ) (made x : ℕ) → Ready task bytes layers → Sound (jobOn task bytes) (task .capacity) columns plans made → x < made → Placed task plans x
+placed task bytes layers columns plans made x ready sound l =
+    record {
+      delay-most = ready .delay-most;
+      horizon-most = ready .horizon-most;
+      count-most = ready .count-most;
+      capacity-most = ready .capacity-most;
+      inside = omega (arith, sound .made);
+      long = sound .plans-long;
+    }
+
+module _ (task : Task) (plans : List ℕ) (x : ℕ) (p : Placed task plans x) (size : ℕ) (is : size ≡ task .team .count * (task .horizon + 1)) where
+  -- the stretch of node x stands in the plans
+  pub stretch-inside : x * size + size ≤ length plans
+  stretch-inside = rw is (omega (arith, part-within x (task .capacity) (task .team .count * (task .horizon + 1)) (p .inside), p .long))
+
+  -- and so does each cell of it
+  pub cell-inside : (i t : ℕ) → i < task .team .count → t ≤ task .horizon → x * size + i * (task .horizon + 1) + t < length plans
+  cell-inside i t l k = omega (arith, stretch-inside, part-within i (task .team .count) (task .horizon + 1) l)
+
+-- the numbers of the bars fit their columns
+module _ (task : Task) (bars : Bars) (i j : ℕ) (one-in : i < task .team .count) (two-in : j < task .team .count) where
+  pub stays-fit : (v t : ℕ) → bars ≡ stayBars i j v t (task .delay) → v < 256 → t ≤ 63 → task .delay ≤ 4 → BarsFit task bars
+  unfolding BarSet
+  stays-fit v t e cell step delay =
+      rw e (record { i-inside = one-in; j-inside = two-in; one-fits = (omega arith, omega arith, omega arith); two-fits = (omega arith, omega arith, omega arith) })
+
+  pub crosses-fit : (u v t : ℕ) → bars ≡ crossBars i j u v t → u < 256 → v < 256 → t ≤ 63 → BarsFit task bars
+  unfolding BarSet
+  crosses-fit u v t e from to step =
+      rw e (record { i-inside = one-in; j-inside = two-in; one-fits = (omega arith, omega arith, omega arith); two-fits = (omega arith, omega arith, omega arith) })
+
+-- ---- cells
+
+module _ (job : Job) where
+  pub cell-at : (plans : List ℕ) (x i t : ℕ) → i < job .count → t ≤ job .horizon → getD plans (x * planLength job + i * (job .horizon + 1) + t) 0 ≡ cellsOf (routesIn job (stretchAt job plans x)) i t
+  cell-at plans x i t l k =
+      sym (ap (λ (r : List ℕ). cellOf r t) (route-in job (stretchAt job plans x) i l ∙ route-at job plans x i l)
+      ∙ getD-take (job .horizon + 1) (drop (x * planLength job + i * (job .horizon + 1)) plans) t 0 (omega arith)
+      ∙ getD-drop (x * planLength job + i * (job .horizon + 1)) plans t 0)
+
+  cell-in : (stretch : List ℕ) (i t : ℕ) → i < job .count → t ≤ job .horizon → cellIn stretch (job .horizon) i t ≡ cellsOf (routesIn job stretch) i t
+  unfolding routeIn
+  cell-in stretch i t l k =
+      sym (ap (λ (r : List ℕ). cellOf r t) (route-in job stretch i l)
+      ∙ getD-take (job .horizon + 1) (drop (i * (job .horizon + 1)) stretch) t 0 (omega arith)
+      ∙ getD-drop (i * (job .horizon + 1)) stretch t 0)
+
+  clash-in : (stretch : List ℕ) → firstClash stretch (job .count) (job .delay) (job .horizon) ≡ chosen (cellsOf (routesIn job stretch)) (slipOf job) (mostSlip job) (job .horizon) (job .count)
+  clash-in stretch = chosen-same (cellIn stretch (job .horizon)) (cellsOf (routesIn job stretch)) (slipOf job) (mostSlip job) (job .horizon) (job .count) (cell-in stretch)
+
+-- what the code reads, of a node whose stretch has `size` bytes
+module _ (task : Task) (plans : List ℕ) (x size : ℕ) (is : size ≡ task .team .count * (task .horizon + 1)) where
+  stretch-part : take (x * size + size - x * size) (drop (x * size) plans) ≡ stretchAt (jobIn task) plans x
+  unfolding stretchAt
+  stretch-part = let e : x * size + size - x * size ≡ size = omega arith in rw (e, is) refl
+
+  pub cell-read : (i t : ℕ) → i < task .team .count → t ≤ task .horizon → getD plans (x * size + i * (task .horizon + 1) + t) 0 ≡ cellsOf (routesIn (jobIn task) (stretchAt (jobIn task) plans x)) i t
+  cell-read i t l k = rw is (cell-at (jobIn task) plans x i t l k)
+
+  pub clash-read : firstClash (take (x * size + size - x * size) (drop (x * size) plans)) (task .team .count) (task .delay) (task .horizon) ≡ firstClash (stretchAt (jobIn task) plans x) (task .team .count) (task .delay) (task .horizon)
+  clash-read = ap (λ (l : List ℕ). firstClash l (task .team .count) (task .delay) (task .horizon)) stretch-part
+
+module _ (task : Task) (bytes : List ℕ) (capacity : ℕ) (columns plans : List ℕ) (x : ℕ) where
+  -- the clash and the cells that the code has read are the node's
+  pub node-clash : (clash : Clash) → clash ≡ firstClash (stretchAt (jobIn task) plans x) (task .team .count) (task .delay) (task .horizon) → clash ≡ clashOf (jobOn task bytes) (nodeAt (jobOn task bytes) capacity columns plans x)
+  unfolding clashOf nodeAt stretchAt
+  node-clash clash e = e ∙ clash-in (jobOn task bytes) (stretchAt (jobOn task bytes) plans x)
+
+  pub node-cell : (i t v : ℕ) → v ≡ cellsOf (routesIn (jobIn task) (stretchAt (jobIn task) plans x)) i t → v ≡ cellsOf (nodeAt (jobOn task bytes) capacity columns plans x .routes) i t
+  unfolding nodeAt routesIn stretchAt
+  node-cell i t v e = e
+
+-- ---- what a chosen clash tells
+
+module _ (job : Job) (n : Node) where
+  told : (clash : Clash) → clash ≡ clashOf job n → ChosenFact (cellsOf (n .routes)) (slipOf job) (mostSlip job) (job .horizon) (job .count) clash
+  unfolding clashOf
+  told clash e =
+      subst (ChosenFact (cellsOf (n .routes)) (slipOf job) (mostSlip job) (job .horizon) (job .count)) (sym e)
+      (chosen-fact (cellsOf (n .routes)) (slipOf job) (mostSlip job) (job .horizon) (job .count) (λ i l. omega arith))
+
+  module _ (clash : Clash) (is : clash ≡ clashOf job n) where
+    pub meeting-within : (i j t d : ℕ) → clash ≡ Meeting i j t d → (i < job .count) × (j < job .count) × (t ≤ job .horizon)
+    unfolding ChosenFact
+    meeting-within i j t d e = let f = told (Meeting i j t d) (sym e ∙ is) in (f .0, f .1, omega (arith, f .3 .inside))
+
+    pub swap-within : (i j t : ℕ) → clash ≡ Swap i j t → (i < job .count) × (j < job .count) × (t + 1 ≤ job .horizon)
+    unfolding ChosenFact
+    swap-within i j t e = let f = told (Swap i j t) (sym e ∙ is) in (f .0, f .1, f .3 .inside)
+
+    -- the two exchange their cells
+    pub swap-exchanged : (i j t : ℕ) → clash ≡ Swap i j t → (cellsOf (n .routes) i t ≡ cellsOf (n .routes) j (t + 1)) × (cellsOf (n .routes) j t ≡ cellsOf (n .routes) i (t + 1))
+    unfolding ChosenFact
+    swap-exchanged i j t e = let f = told (Swap i j t) (sym e ∙ is) in (f .3 .there, f .3 .back)

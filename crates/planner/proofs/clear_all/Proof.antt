@@ -1,0 +1,86 @@
+-- Each least length fits its table. Assumes nothing.
+use Prim.Native.Nat.{ℕ, _*_}
+use native.Mathlib.Omega.{arith}
+use mathlib.Core.Path.{ap, _∙_}
+use borrow.Author.Needs.{needs}
+use Rattle.tables.specs.Tables.{zeroed}
+use Rattle.planner.proofs.Answers.{plans-small}
+use Rattle.planner.proofs.clear_all.Statement.{statement}
+use Rattle.planner.proofs.clear_all.Tie as tie
+
+mul-clear-words : tie.Need-mul-clear-words
+mul-clear-words c = search needs
+
+clear-words-requires : tie.Need-clear-words-requires
+clear-words-requires c κs = search needs
+
+stretch-of-requires : tie.Need-stretch-of-requires
+stretch-of-requires c κs = search needs
+
+mul-clear-bytes : tie.Need-mul-clear-bytes
+mul-clear-bytes c =
+    let a = c .before .before .before .before .before .before .before .before .before .args in
+    let pre = c .before .before .before .before .before .before .before .before .before .pre in
+    let stretch-of = c .stretch-of in
+    let e = stretch-of .ensures in
+    rw e (omega (arith, plans-small (a .task .team .count) (a .task .horizon) (a .task .capacity) (pre .0 .count-most) (pre .0 .horizon-most) (pre .0 .capacity-most)))
+
+clear-bytes-requires : tie.Need-clear-bytes-requires
+clear-bytes-requires c κs =
+    let pre = c .before .before .before .before .before .before .before .before .before .pre in
+    let stretch-of = c .stretch-of in
+    let e = stretch-of .ensures in
+    rw e (pre .1 .1)
+
+add-clear-bytes : tie.Need-add-clear-bytes
+add-clear-bytes c = search needs
+
+mul-clear-bytes-2 : tie.Need-mul-clear-bytes-2
+mul-clear-bytes-2 c = search needs
+
+mul-clear-bytes-3 : tie.Need-mul-clear-bytes-3
+mul-clear-bytes-3 c = search needs
+
+clear-bytes-requires-2 : tie.Need-clear-bytes-requires-2
+clear-bytes-requires-2 c κs = search needs
+
+same-length : tie.Need-same-length
+same-length c = search needs
+
+same-length-2 : tie.Need-same-length-2
+same-length-2 c = search needs
+
+same-length-3 : tie.Need-same-length-3
+same-length-3 c = search needs
+
+returns : tie.Need-returns
+returns c =
+    let a = c .before .before .before .before .before .before .before .before .before .before .before .before .before .before .before .before .before .before .args in
+    let stretch-of = c .before .before .before .before .before .before .before .before .before .stretch-of in
+    let clear-words = c .before .before .before .before .before .before .before .before .before .before .before .before .before .clear-words in
+    let clear-bytes = c .before .before .before .before .before .before .before .before .clear-bytes in
+    let clear-bytes2 = c .before .before .clear-bytes2 in
+    let size = stretch-of .ensures in
+    record {
+      columns-cleared = clear-words .ensures;
+      plans-cleared = clear-bytes .ensures ∙ ap (λ (n : ℕ). zeroed (a .task .capacity * n) (a .plans .now)) size;
+      layers-cleared = clear-bytes2 .ensures;
+    }
+
+pub clear-all-spec : {M : Type 1} → statement M
+clear-all-spec =
+    tie.close
+    (tie.spec
+    mul-clear-words
+    clear-words-requires
+    stretch-of-requires
+    mul-clear-bytes
+    clear-bytes-requires
+    add-clear-bytes
+    mul-clear-bytes-2
+    mul-clear-bytes-3
+    clear-bytes-requires-2
+    same-length
+    same-length-2
+    same-length-3
+    returns)
