@@ -1,7 +1,7 @@
 -- Document 01's broken versions of the planner, each refuted: a function that behaves so does not give what the contract says, at a ★
 -- job. The contract says that answer and tables equal `planned`; a ★ job says what `planned` is there (law `stars-hold`).
 -- Assumes nothing.
-use Prim.Native.Nat.{ℕ}
+use Prim.Native.Nat.{ℕ, _≤_}
 use native.Mathlib.Omega.{arith}
 use mathlib.Core.Path.{_≡_, sym, ap, _∙_}
 use mathlib.Core.List.{List, []}
@@ -11,8 +11,8 @@ use Rattle.job.specs.Job.{Job}
 use Rattle.job.specs.Told.{bare}
 use Rattle.tables.specs.Tables.{Tables}
 use Rattle.planner.specs.Answer.{Result, planned}
-use Rattle.planner.specs.Stars.{Star, starJob, starTables, Seen, asked, seen, given, stars}
-use Rattle.planner.proofs.Stars.{stars-hold}
+use Rattle.planner.specs.Stars.{Star, starJob, starTables, Seen, asked, seen, given, stars, lastJob}
+use Rattle.planner.proofs.Stars.{stars-hold, last-job-holds}
 
 -- a planner as its caller sees it, and what its contract says of it
 abbrev Planner : Type 0
@@ -82,3 +82,10 @@ module _ (f : Planner) (meets : Meets f) where
   nothing-written never =
       let one : _≡_ {A = ℕ} 0 3 = ap (λ (l : List ℕ). getD l 0 9) (sym (never (starAt 0)) ∙ ap (λ (x : Seen). x .output) first-got) in
       omega arith
+
+-- grows the root's children and then only pretends, so that it never has more than three records: the last job has four
+pub only-children-grown : (f : Planner) → Meets f → ((s : Star) → got f s .told .records ≤ 3) → ⊥
+unfolding lastJob
+only-children-grown f meets few =
+    let e : got f lastJob .told .records ≡ 4 = ap (λ (x : Seen). x .told .records) (got-given f meets lastJob ∙ last-job-holds) in
+    omega (arith, few lastJob)

@@ -3,6 +3,7 @@ pub mod Broken
 pub mod Cells
 pub mod Children
 pub mod Promises
+pub mod Settled
 pub mod Stars
 pub mod Tails
 pub mod Turns

@@ -1,7 +1,7 @@
--- The eleven ★ jobs of document 01, as one claim: what the definitions give is what is asked. antt computes both sides.
+-- The eleven ★ jobs of document 01, as one claim, and its last job: what the definitions give is what is asked. antt computes both sides.
 -- Assumes nothing.
 use mathlib.Core.Path.{_≡_, refl}
-use mathlib.Core.List.{map}
+use mathlib.Core.List.{_∷_, map, head-eq-of-cons-eq, tail-eq-of-cons-eq}
 use Rattle.lists.specs.Lists.{range, sumTo, only, keep, anyOf, firstOf, each}
 use Rattle.hall.specs.Hall.{wrongSide, wrongGrid, wrongByte, wrongBytes, isOpen}
 use Rattle.hall.specs.Moves.{onGrid, cellAt, landing, reachFrom, reach}
@@ -16,8 +16,14 @@ use Rattle.tree.specs.Plan.{total}
 use Rattle.tables.specs.Tables.{shortTable, zeroed, workedOn, planWritten, withPlan}
 use Rattle.tree.specs.Tree.{routeUnder, withRoute, freeRoutes, rootOf, root, nodeSum, clashOf, isClear, nodeClear, barOne, barTwo, childWith, child, kidsFor, kids, tree}
 use Rattle.planner.specs.Answer.{searched, enough, planned}
-use Rattle.planner.specs.Stars.{asked, given, stars}
+use Rattle.planner.specs.Stars.{asked, given, stars, lastJob}
+
+worked-hold : map given (lastJob ∷ stars) ≡ map asked (lastJob ∷ stars)
+unfolding range sumTo only keep anyOf firstOf each wrongSide wrongGrid wrongByte wrongBytes isOpen onGrid cellAt landing reachFrom reach wrongLimits wrongCapacity wrongCount wrongEnds firstWrong share pairs firstShared refuseIf endsVerdict sharedVerdict judgeWith ifAccepted stepCost cost barsFor barsCell barsWay mayStand mayTurn cheaper better bestOf inFront bestWay bestRoute written meets swaps happens overPairs atStep candidates orClear chosen prefer takeLeast run search total shortTable zeroed workedOn planWritten withPlan routeUnder withRoute freeRoutes rootOf root nodeSum clashOf isClear nodeClear barOne barTwo childWith child kidsFor kids tree searched enough planned stars lastJob
+worked-hold = refl
 
 pub stars-hold : map given stars ≡ map asked stars
-unfolding range sumTo only keep anyOf firstOf each wrongSide wrongGrid wrongByte wrongBytes isOpen onGrid cellAt landing reachFrom reach wrongLimits wrongCapacity wrongCount wrongEnds firstWrong share pairs firstShared refuseIf endsVerdict sharedVerdict judgeWith ifAccepted stepCost cost barsFor barsCell barsWay mayStand mayTurn cheaper better bestOf inFront bestWay bestRoute written meets swaps happens overPairs atStep candidates orClear chosen prefer takeLeast run search total shortTable zeroed workedOn planWritten withPlan routeUnder withRoute freeRoutes rootOf root nodeSum clashOf isClear nodeClear barOne barTwo childWith child kidsFor kids tree searched enough planned stars
-stars-hold = refl
+stars-hold = tail-eq-of-cons-eq worked-hold
+
+pub last-job-holds : given lastJob ≡ asked lastJob
+last-job-holds = head-eq-of-cons-eq worked-hold

@@ -83,3 +83,8 @@ stars =
     ∷ star 3 1 (0 ∷ 1 ∷ []) (1 ∷ 2 ∷ []) 1 1 128 (counted 8 0 1) []
     ∷ star 3 1 (0 ∷ 1 ∷ []) (1 ∷ 2 ∷ []) 1 2 128 (counted 0 3 2) ((0 ∷ 0 ∷ 1 ∷ []) ∷ (1 ∷ 2 ∷ 2 ∷ []) ∷ [])
     ∷ []
+
+-- The last job of the same section has no star and no printed routes: 'Width 4, height 2, 6→2 and 0→3, k 0, H 3: least sum 6.'
+unfoldable pub lastJob : Star
+unfolding star
+lastJob = star 4 2 (6 ∷ 0 ∷ []) (2 ∷ 3 ∷ []) 0 3 128 (counted 0 6 4) ((6 ∷ 2 ∷ 6 ∷ 2 ∷ []) ∷ (0 ∷ 1 ∷ 2 ∷ 3 ∷ []) ∷ [])
