@@ -1,0 +1,46 @@
+-- The stores, one after the other, are what the definition writes where there is room. Assumes nothing.
+use native.Mathlib.Omega.{arith}
+use mathlib.Core.List.{[], _∷_}
+use lib.Seq.{lt-length-sets}
+use Rattle.adfulmise.specs.Lent.{toldValues}
+use Rattle.adfulmise.proofs.LentLaws.{written-short, written-long}
+use borrow.Author.Needs.{needs}
+use Rattle.adfulmise.proofs.write_told.Statement.{statement}
+use Rattle.adfulmise.proofs.write_told.Tie as tie
+
+returns : tie.Need-returns
+returns c = written-short (toldValues (c .before .args .values)) (c .before .args .told .now) (c .if1 .taken)
+
+slice-write-told : tie.Need-slice-write-told
+slice-write-told c = search needs
+
+slice-write-told-2 : tie.Need-slice-write-told-2
+slice-write-told-2 c = lt-length-sets (c .before .args .told .now) 0 (c .before .args .values .number ∷ []) (omega arith)
+
+slice-write-told-3 : tie.Need-slice-write-told-3
+slice-write-told-3 c = lt-length-sets (c .before .args .told .now) 0 (c .before .args .values .number ∷ c .before .args .values .sum ∷ []) (omega arith)
+
+slice-write-told-4 : tie.Need-slice-write-told-4
+slice-write-told-4 c = lt-length-sets (c .before .args .told .now) 0 (c .before .args .values .number ∷ c .before .args .values .sum ∷ c .before .args .values .records ∷ []) (omega arith)
+
+slice-write-told-5 : tie.Need-slice-write-told-5
+slice-write-told-5 c = search needs
+
+same-length : tie.Need-same-length
+same-length c = search needs
+
+returns-2 : tie.Need-returns-2
+returns-2 c = written-long (toldValues (c .before .args .values)) (c .before .args .told .now) (c .if1 .left)
+
+pub write-told-spec : {M : Type 1} → statement M
+write-told-spec =
+    tie.close
+    (tie.spec
+    returns
+    slice-write-told
+    slice-write-told-2
+    slice-write-told-3
+    slice-write-told-4
+    slice-write-told-5
+    same-length
+    returns-2)

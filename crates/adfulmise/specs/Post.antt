@@ -1,0 +1,34 @@
+-- What the exported functions promise: the number given back, and every entry of every list lent.
+use Prim.Native.Nat.{ℕ}
+use mathlib.Core.List.{List, []}
+use mathlib.Core.Path.{_≡_}
+use lib.ListN.{length, take, drop}
+use Rattle.book.specs.Book.{bookNumber, askedVerdict, ifGood, entryOffset, bodyOf}
+use Rattle.job.specs.Job.{Job}
+use Rattle.job.specs.declared.Fault.{Fault}
+use Rattle.tables.specs.Tables.{Tables}
+use Rattle.planner.specs.Answer.{planned, answerTold}
+use Rattle.planner.specs.Promises.{Promised}
+use Rattle.adfulmise.specs.Lent.{written, toldValues, faultValues, placeValues}
+
+-- the planner's number and what it tells, the tables, and the promises in plain terms
+pub record Answered (job : Job) (capacity : ℕ) (before : Tables) (lent : List ℕ) (r : ℕ) (after : Tables) (given : List ℕ) : Type 0 where
+  pub number : r ≡ answerTold (planned job capacity before .answer) .number
+  pub told : given ≡ written (toldValues (answerTold (planned job capacity before .answer))) lent
+  pub tables : after ≡ planned job capacity before .tables
+  pub promised : Promised job capacity before (planned job capacity before .answer) after
+
+-- a check's number, and what it tells
+pub record Checked (fault : Fault) (before : List ℕ) (r : ℕ) (after : List ℕ) : Type 0 where
+  pub number : r ≡ fault .number
+  pub told : after ≡ written (faultValues fault) before
+
+-- where the body of a kind begins; 0 with a refusal, where the body is empty
+unfoldable pub offsetOf : List ℕ → ℕ → ℕ
+offsetOf book kind = ifGood (askedVerdict book kind) (entryOffset book kind) 0
+
+-- the reader's number, and where the body stands
+pub record Read (book : List ℕ) (kind : ℕ) (before : List ℕ) (r : ℕ) (after : List ℕ) : Type 0 where
+  pub number : r ≡ bookNumber (askedVerdict book kind)
+  pub place : after ≡ written (placeValues (offsetOf book kind) (length (bodyOf book kind))) before
+  pub body : take (length (bodyOf book kind)) (drop (offsetOf book kind) book) ≡ bodyOf book kind
