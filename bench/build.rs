@@ -1,17 +1,17 @@
-//! With the feature `proved`: links the two objects that `run` has put into the
-//! directory named by `PROVED_DIR`.
+//! With the feature `proved-route` or `proved`: links the one or two objects that
+//! `run` has put into the directory named by `PROVED_DIR`.
 
 use std::env;
 
 fn main() {
     println!("cargo:rerun-if-env-changed=PROVED_DIR");
-    if env::var_os("CARGO_FEATURE_PROVED").is_some() {
-        link_objects(&env::var("PROVED_DIR").expect("`run` sets PROVED_DIR"));
-    }
+    link_if("CARGO_FEATURE_PROVED_ROUTE", "route.o");
+    link_if("CARGO_FEATURE_PROVED", "plan.o");
 }
 
-fn link_objects(directory: &str) {
-    for object in ["plan.o", "route.o"] {
+fn link_if(feature: &str, object: &str) {
+    if env::var_os(feature).is_some() {
+        let directory = env::var("PROVED_DIR").expect("`run` sets PROVED_DIR");
         println!("cargo:rerun-if-changed={directory}/{object}");
         println!("cargo:rustc-link-arg={directory}/{object}");
     }

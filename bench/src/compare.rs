@@ -14,7 +14,7 @@ const SPARE: usize = 3;
 pub fn differing_routes<'a>(sides: &[&'a dyn Side], task: &RouteTask) -> Vec<&'a str> {
     differing(sides, |side| {
         let mut layers = vec![BEFORE; task.layers_len()];
-        let mut stretch = vec![BEFORE; task.stretch_len() + SPARE];
+        let mut stretch = vec![BEFORE; task.stretch_len()];
         (side.best_route(task, &mut layers, &mut stretch), stretch)
     })
 }

@@ -15,7 +15,7 @@
 pub mod compare;
 pub mod families;
 pub mod measure;
-#[cfg(feature = "proved")]
+#[cfg(feature = "proved-route")]
 pub mod proved;
 pub mod random;
 pub mod report;

@@ -18,11 +18,14 @@ use bench::yardstick::{BY_CELL, BY_LAYER};
 const ROUTE_ROUNDS: usize = 21;
 const PLAN_ROUNDS: usize = 5;
 
+/// Where the best route's archive alone is linked, plans are left out.
+const WITH_PLANS: bool = cfg!(feature = "proved") || !cfg!(feature = "proved-route");
+
 /// The proved planner first, if it is linked; ratios are of the first to the
 /// others.
 fn sides() -> Vec<&'static dyn Side> {
     vec![
-        #[cfg(feature = "proved")]
+        #[cfg(feature = "proved-route")]
         &bench::proved::Proved,
         &BY_CELL,
         &BY_LAYER,
@@ -36,7 +39,10 @@ fn main() -> ExitCode {
     println!(
         "processor time; sides interleaved on the same inputs; buffers not cleared in between"
     );
-    let differences = report_routes(&sides, &mut random) + report_plans(&sides, &mut random);
+    let mut differences = report_routes(&sides, &mut random);
+    if WITH_PLANS {
+        differences += report_plans(&sides, &mut random);
+    }
     println!("\ninputs on which a side differs from the first: {differences}");
     ExitCode::from(u8::from(differences > 0))
 }

@@ -4,6 +4,7 @@ use crate::side::Side;
 use crate::task::{PlanTask, RouteTask, Tables, Told};
 
 unsafe extern "C" {
+    #[cfg(feature = "proved")]
     fn adfulmise_plan(
         hall: *const u8,
         hall_len: usize,
@@ -77,7 +78,13 @@ impl Side for Proved {
         }
     }
 
+    #[cfg(not(feature = "proved"))]
+    fn plan(&self, _: &PlanTask, _: &mut Tables) -> Told {
+        unreachable!("without the planner's archive no plans are measured")
+    }
+
     /// The number is taken from `told`, not from the value returned.
+    #[cfg(feature = "proved")]
     fn plan(&self, task: &PlanTask, tables: &mut Tables) -> Told {
         let mut told = Told::default();
         // SAFETY: each pointer goes with the length of its slice.

@@ -1,0 +1,185 @@
+// The best route of a carrier as a C function, for the benchmark: its arguments are looked at here, so that any may be handed in.
+use layers::Sought;
+use routes::Bar;
+ghost use Prim.Native.Nat.{_*_, _≤_, _<_};
+ghost use lib.ListN.{length};
+ghost use Rattle.records.specs.Columns.{Falls};
+ghost use Rattle.route_bench.specs.Answer.{Tells, RightFloor, RightRoom, RightArguments, routeAt, Answered};
+
+// The cost that stands for 'no route', and for arguments that are not right.
+const NO_ROUTE: usize = 255;
+
+const REFUSED: usize = 254;
+
+const LONGEST_SIDE: usize = 16;
+
+const LAST_HORIZON: usize = 63;
+
+const MOST_NODES: usize = 1024;
+
+const COLUMN_COUNT: usize = 8;
+
+// One more than the greatest cell number.
+const CELLS: usize = 256;
+
+fn right_floor(hall: &[u8], width: usize, height: usize, start: usize) -> bool
+    ensures { λ r. ⌜ Tells (RightFloor (now (hall .entry)) width height start) r ⌝ }
+{
+    if width < 1 {
+        return false;
+    }
+    if LONGEST_SIDE < width {
+        return false;
+    }
+    if height < 1 {
+        return false;
+    }
+    if LONGEST_SIDE < height {
+        return false;
+    }
+    if hall.len() != width * height {
+        return false;
+    }
+    start < width * height
+}
+
+// Does each node from 1 to `node` have a parent of a smaller number?
+fn parents_fall(columns: &[u16], capacity: usize, node: usize) -> bool
+    requires { ⌜ (node < capacity) × (capacity ≤ 1024) × (8 * capacity ≤ length (now columns)) ⌝ }
+    ensures { λ r. ⌜ Tells (Falls capacity (now (columns .entry)) node) r ⌝ }
+{
+    let mut y = 1;
+    while y <= node {
+        if y <= records::entry_at(columns, capacity, records::PARENT, y) {
+            return false;
+        }
+        y += 1;
+    }
+    true
+}
+
+fn right_records(columns: &[u16], capacity: usize, node: usize) -> bool
+    ensures { λ r. ⌜ Tells (Falls capacity (now (columns .entry)) node) r ⌝ }
+{
+    if MOST_NODES < capacity {
+        return false;
+    }
+    if columns.len() < COLUMN_COUNT * capacity {
+        return false;
+    }
+    if capacity <= node {
+        return false;
+    }
+    parents_fall(columns, capacity, node)
+}
+
+fn right_room(size: usize, h: usize, layers: &[u8], stretch: &[u8]) -> bool
+    requires { ⌜ size ≤ 256 ⌝ }
+    ensures { λ r. ⌜ Tells (RightRoom size h (now (layers .entry)) (now (stretch .entry))) r ⌝ }
+{
+    if LAST_HORIZON < h {
+        return false;
+    }
+    if layers.len() < (h + 1) * size {
+        return false;
+    }
+    stretch.len() == h + 1
+}
+
+fn right_arguments(
+    hall: &[u8],
+    width: usize,
+    height: usize,
+    start: usize,
+    goal: usize,
+    h: usize,
+    columns: &[u16],
+    capacity: usize,
+    node: usize,
+    layers: &[u8],
+    stretch: &[u8],
+) -> bool
+    ensures { λ r. ⌜ Tells (RightArguments (now (hall .entry)) width height start goal h (now (columns .entry)) capacity node (now (layers .entry)) (now (stretch .entry))) r ⌝ }
+{
+    if !right_floor(hall, width, height, start) {
+        return false;
+    }
+    if CELLS <= goal {
+        return false;
+    }
+    if !right_records(columns, capacity, node) {
+        return false;
+    }
+    right_room(width * height, h, layers, stretch)
+}
+
+// Document 01, rule 2: the cost of the best route under the bars that bind a carrier at a node, and the route in the stretch; 255 where
+// there is none, 254 where the arguments are not right.
+#[no_mangle]
+pub extern "C" fn adfulmise_best_route(
+    hall: &[u8],
+    width: usize,
+    height: usize,
+    start: usize,
+    goal: usize,
+    h: usize,
+    columns: &[u16],
+    capacity: usize,
+    node: usize,
+    carrier: usize,
+    layers: &mut [u8],
+    stretch: &mut [u8],
+) -> usize
+    ensures { λ r. ⌜ Answered (RightArguments (now (hall .entry)) width height start goal h (now (columns .entry)) capacity node (now (layers .entry)) (now (stretch .entry))) goal (routeAt (now (hall .entry)) width height start goal h (now (columns .entry)) capacity node carrier) (now (layers .entry)) (now (layers .exit)) (now (stretch .entry)) (now (stretch .exit)) r ⌝ }
+{
+    if !right_arguments(
+        hall,
+        width,
+        height,
+        start,
+        goal,
+        h,
+        columns,
+        capacity,
+        node,
+        layers,
+        stretch,
+    ) {
+        return REFUSED;
+    }
+    let sought = layers::seek_route(
+        hall,
+        width,
+        height,
+        start,
+        goal,
+        h,
+        columns,
+        capacity,
+        node,
+        carrier,
+        Bar::Free,
+        layers,
+    );
+    match sought {
+        Sought::Nothing => NO_ROUTE,
+        Sought::Cost(cost) => {
+            layers::write_route(
+                hall,
+                width,
+                height,
+                start,
+                goal,
+                h,
+                columns,
+                capacity,
+                node,
+                carrier,
+                Bar::Free,
+                layers,
+                stretch,
+            );
+            cost
+        }
+    }
+}
