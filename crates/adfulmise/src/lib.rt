@@ -62,7 +62,17 @@ pub extern "C" fn adfulmise_plan(
 {
     let team = carriers::team_of_bytes(carriers);
     let answer = planner::plan(
-        hall, width, height, team, k, h, n, columns, plans, layers, output,
+        hall,
+        width,
+        height,
+        team,
+        k,
+        h,
+        n,
+        columns,
+        plans,
+        layers,
+        output,
     );
     let values = told::answer_told(answer);
     write_told(values, told);

@@ -77,9 +77,9 @@ module _ (book : List ℕ) where
       let team-is : team ≡ teamIn book = isTeam ∙ ap bytesTeam b2 in
       let horizon-is : h ≡ horizonIn (bodyOf book 3) = ll ∙ ap (λ (x : List ℕ). getD x 1 0) b3 in
       let job-is : jobOf width height bytes team k h ≡ jobIn book =
-          job-same width height k h bytes team
-          (w ∙ ap (λ (x : List ℕ). getD x 0 0) b1) (hh ∙ ap (λ (x : List ℕ). getD x 1 0) b1) (bs ∙ ap hallIn b1) team-is
-          (kk ∙ ap (λ (x : List ℕ). getD x 0 0) b3) horizon-is in
+      job-same width height k h bytes team
+      (w ∙ ap (λ (x : List ℕ). getD x 0 0) b1) (hh ∙ ap (λ (x : List ℕ). getD x 1 0) b1) (bs ∙ ap hallIn b1) team-is
+      (kk ∙ ap (λ (x : List ℕ). getD x 0 0) b3) horizon-is in
       let answer-is : answer ≡ planned (jobIn book) n before .answer = made .told ∙ ap (λ (x : Job). planned x n before .answer) job-is in
       let tables-are : after ≡ planned (jobIn book) n before .tables = made .tables ∙ ap (λ (x : Job). planned x n before .tables) job-is in
       record {

@@ -129,14 +129,7 @@ fn put_team(out: &mut [u8], at: usize, team: Team, h: usize, output: &[u8]) -> u
 }
 
 // 'For 0, then `sum`, `records`, and for each carrier its number, cost and cells'
-fn put_plan(
-    out: &mut [u8],
-    at: usize,
-    told: Told,
-    team: Team,
-    h: usize,
-    output: &[u8],
-) -> usize
+fn put_plan(out: &mut [u8], at: usize, told: Told, team: Team, h: usize, output: &[u8]) -> usize
     ensures { λ r. ⌜ page (now (out .exit)) r ≡ put (page (now (out .entry)) at) (planText told team h (now (output .entry))) ⌝ }
 {
     let records = put_line(out, at, b"sum ", told.sum);
@@ -145,14 +138,7 @@ fn put_plan(
 }
 
 // What follows the first line.
-fn put_rest(
-    out: &mut [u8],
-    at: usize,
-    told: Told,
-    team: Team,
-    h: usize,
-    output: &[u8],
-) -> usize
+fn put_rest(out: &mut [u8], at: usize, told: Told, team: Team, h: usize, output: &[u8]) -> usize
     ensures { λ r. ⌜ page (now (out .exit)) r ≡ put (page (now (out .entry)) at) (restText told team h (now (output .entry))) ⌝ }
 {
     let number = told.number;
@@ -183,13 +169,7 @@ pub fn told_lines(told: Told, team: Team, h: usize, output: &[u8], out: &mut [u8
 }
 
 // The lines of the planner's answer.
-pub fn answer_lines(
-    answer: Answer,
-    team: Team,
-    h: usize,
-    output: &[u8],
-    out: &mut [u8],
-) -> usize
+pub fn answer_lines(answer: Answer, team: Team, h: usize, output: &[u8], out: &mut [u8]) -> usize
     ensures { λ r. ⌜ page (now (out .exit)) r ≡ put (page (now (out .entry)) 0) (toldText (answerTold answer) team h (now (output .entry))) ⌝ }
 {
     told_lines(told::answer_told(answer), team, h, output, out)
@@ -243,7 +223,17 @@ fn job_lines(
     let h = number_at(limits, 1);
     let bytes = hall_in(hall);
     let answer = planner::plan(
-        bytes, width, height, team, k, h, n, columns, plans, layers, output,
+        bytes,
+        width,
+        height,
+        team,
+        k,
+        h,
+        n,
+        columns,
+        plans,
+        layers,
+        output,
     );
     answer_lines(answer, team, h, output, out)
 }

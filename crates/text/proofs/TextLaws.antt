@@ -65,13 +65,14 @@ enough : (f g n : ℕ) → n < f → n < g → digitsWithin f n ≡ digitsWithin
 enough zero g n a b = absurd (omega arith)
 enough (suc f) zero n a b = absurd (omega arith)
 enough (suc f) (suc g) n a b =
-    (elim (ltb n 10) as (λ t. ltb n 10 ≡ t → digitsWithin (suc f) n ≡ digitsWithin (suc g) n)
-    [ true ↦ λ e. within-one f n (ltb-true n 10 e) ∙ sym (within-one g n (ltb-true n 10 e))
-    | false ↦ λ e.
-        let more : 10 ≤ n = ltb-false n 10 e in
-        within-more f n more
-        ∙ ap (λ (ds : List ℕ). ds ++ ((48 + n % 10) ∷ [])) (enough f g (n / 10) (omega arith) (omega arith))
-        ∙ sym (within-more g n more) ]) refl
+    (elim (ltb n 10) as (λ t. ltb n 10 ≡ t → digitsWithin (suc f) n ≡ digitsWithin (suc g) n) [
+      | true ↦ λ e. within-one f n (ltb-true n 10 e) ∙ sym (within-one g n (ltb-true n 10 e))
+      | false ↦ λ e.
+          let more : 10 ≤ n = ltb-false n 10 e in
+          within-more f n more
+          ∙ ap (λ (ds : List ℕ). ds ++ ((48 + n % 10) ∷ [])) (enough f g (n / 10) (omega arith) (omega arith))
+          ∙ sym (within-more g n more)
+    ]) refl
 
 pub digits-one : (n : ℕ) → n < 10 → digits n ≡ (48 + n % 10) ∷ []
 unfolding digits
@@ -93,9 +94,10 @@ number-more p q r n d more is e f = rw (digits-more n more, put-snoc, ← is, �
 byte-kept : (p : Page) (b : ℕ) → length (putByte p b .bytes) ≡ length (p .bytes)
 unfolding putByte
 byte-kept p b =
-    (elim (ltb (p .at) (length (p .bytes))) as (λ t. ltb (p .at) (length (p .bytes)) ≡ t → length (putByte p b .bytes) ≡ length (p .bytes))
-    [ true ↦ λ e. rw (e, putByte) (length-set (p .bytes) (p .at) b)
-    | false ↦ λ e. rw (e, putByte) ]) refl
+    (elim (ltb (p .at) (length (p .bytes))) as (λ t. ltb (p .at) (length (p .bytes)) ≡ t → length (putByte p b .bytes) ≡ length (p .bytes)) [
+      | true ↦ λ e. rw (e, putByte) (length-set (p .bytes) (p .at) b)
+      | false ↦ λ e. rw (e, putByte)
+    ]) refl
 
 pub put-kept : (p : Page) (text : List ℕ) → length (put p text .bytes) ≡ length (p .bytes)
 unfolding put
@@ -105,9 +107,10 @@ put-kept p (b ∷ text) = put-kept (putByte p b) text ∙ byte-kept p b
 byte-within : (p : Page) (b : ℕ) → p .at ≤ length (p .bytes) → putByte p b .at ≤ length (p .bytes)
 unfolding putByte
 byte-within p b h =
-    (elim (ltb (p .at) (length (p .bytes))) as (λ t. ltb (p .at) (length (p .bytes)) ≡ t → putByte p b .at ≤ length (p .bytes))
-    [ true ↦ λ e. rw (e, putByte) (omega (arith, ltb-true (p .at) (length (p .bytes)) e))
-    | false ↦ λ e. rw (e, putByte) h ]) refl
+    (elim (ltb (p .at) (length (p .bytes))) as (λ t. ltb (p .at) (length (p .bytes)) ≡ t → putByte p b .at ≤ length (p .bytes)) [
+      | true ↦ λ e. rw (e, putByte) (omega (arith, ltb-true (p .at) (length (p .bytes)) e))
+      | false ↦ λ e. rw (e, putByte) h
+    ]) refl
 
 -- a place inside the buffer, its end included, leads to one
 pub put-within : (p : Page) (text : List ℕ) → p .at ≤ length (p .bytes) → put p text .at ≤ length (p .bytes)
