@@ -1,0 +1,139 @@
+/*
+ * Adfulmise: a planner for delayed carriers, its two plan checks and the reader of a book of a job.
+ *
+ * Each function takes numbers and lent memory, keeps nothing between calls, and asks nothing of the numbers: whatever they are,
+ * it ends and gives back a number. Of each piece of memory the caller owes what a pointer with a length always means: the
+ * pointer leads to that many elements (any pointer that is not null for a length of 0), which nothing else changes during the
+ * call, and pieces that are written overlap no other piece. The library is proved for every input that keeps this.
+ *
+ * Build it with `rt staticlib adfulmise`, which writes target/staticlib/libadfulmise.a.
+ *
+ * A job, in all three functions that take one:
+ *   hall, hall_len          the hall's bytes row by row from the top: 46 ('.') is an open cell, 35 ('#') a closed one;
+ *                           width * height of them
+ *   width, height           columns and rows, 1 to 16 each; the number of a cell is row * width + column
+ *   carriers, carriers_len  two bytes for each carrier, its start cell and its goal cell; 1 to 8 carriers. An odd byte at the
+ *                           end is not read
+ *   k                       how many steps each carrier may be late in all, 0 to 4
+ *   h                       the horizon: routes have the steps 0 to h, h from 0 to 63
+ *
+ * The numbers given back, the lowest that applies:
+ *    0  a plan was found; the check passed; the book is good
+ *    1  width or height is 0 or above 16
+ *    2  the hall has not width * height bytes, or a byte is neither 46 nor 35
+ *    3  k above 4, h above 63, or (planner only) n is 0 or above 1024
+ *    4  no carrier, or more than 8
+ *    5  a start or goal is outside the grid or closed: carrier is the first such
+ *    6  two carriers share a start, or share a goal: carrier and other, the smaller number first
+ *    7  a lent table (checks: the plan) is too short
+ *    8  no plan exists: records
+ *    9  n records did not suffice: records is n
+ *   11 to 15  the reader's, see adfulmise_read
+ *   21  (route check) carrier's route is wrong at step
+ *   22  (meeting check) carrier and other meet or exchange cells at step
+ */
+#ifndef ADFULMISE_H
+#define ADFULMISE_H
+
+#include <stddef.h>
+#include <stdint.h>
+
+#ifdef __cplusplus
+extern "C" {
+#endif
+
+/* The places of what is told. Untold numbers are 0. */
+enum {
+    ADFULMISE_NUMBER = 0,
+    /* adfulmise_plan: five numbers */
+    ADFULMISE_SUM = 1,
+    ADFULMISE_RECORDS = 2,
+    ADFULMISE_CARRIER = 3,
+    ADFULMISE_OTHER = 4,
+    ADFULMISE_TOLD = 5,
+    /* adfulmise_check_routes and adfulmise_check_meetings: six numbers */
+    ADFULMISE_FAULT_CARRIER = 1,
+    ADFULMISE_FAULT_OTHER = 2,
+    ADFULMISE_FAULT_STEP = 3,
+    ADFULMISE_FAULT_DISTANCE = 4,
+    ADFULMISE_FAULT_SWAP = 5,
+    ADFULMISE_FAULT = 6,
+    /* adfulmise_read: two numbers */
+    ADFULMISE_OFFSET = 0,
+    ADFULMISE_LENGTH = 1,
+    ADFULMISE_PLACE = 2
+};
+
+/*
+ * The plan of least sum of costs under which no delays within k bring two carriers together.
+ *
+ *   n        how many records the search may use, 1 to 1024
+ *   columns  at least 8 * n entries
+ *   plans    at least n * m * (h + 1) bytes, for m carriers
+ *   layers   at least (h + 1) * width * height bytes
+ *   output   at least m * (h + 1) bytes. For 0 its first m * (h + 1) bytes become the plan: carrier by carrier, its cells for
+ *            the steps 0 to h. For every other number it is left as it was
+ *   told     its first five entries become number, sum, records, carrier, other; with fewer it is left as it was
+ *
+ * After 1 to 7 the first three tables are as they were. After 0, 8 and 9 the lengths named above are all zero in them. What lies
+ * behind a table's named length is never changed.
+ * Gives back the number.
+ */
+size_t adfulmise_plan(
+    const uint8_t *hall, size_t hall_len,
+    size_t width, size_t height,
+    const uint8_t *carriers, size_t carriers_len,
+    size_t k, size_t h, size_t n,
+    uint16_t *columns, size_t columns_len,
+    uint8_t *plans, size_t plans_len,
+    uint8_t *layers, size_t layers_len,
+    uint8_t *output, size_t output_len,
+    size_t *told, size_t told_len);
+
+/*
+ * Are the routes of a plan lawful? 0, 1 to 7, or 21 with the first carrier, and its first step, at which the start, a move, a cell
+ * or the goal is wrong.
+ *
+ *   plan  at least m * (h + 1) bytes, as adfulmise_plan writes them; bytes after that length are not read
+ *   told  its first six entries become number, carrier, other, step, distance, swap; with fewer it is left as it was
+ *
+ * Gives back the number.
+ */
+size_t adfulmise_check_routes(
+    const uint8_t *hall, size_t hall_len,
+    size_t width, size_t height,
+    const uint8_t *carriers, size_t carriers_len,
+    size_t k, size_t h,
+    const uint8_t *plan, size_t plan_len,
+    size_t *told, size_t told_len);
+
+/*
+ * Do two carriers of a plan meet? 0, 1 to 7, or 22: carrier at step and other at step + distance are on one cell or, where swap is
+ * 1, the two exchange cells between step and step + 1. It compares any bytes as cells. Arguments as in adfulmise_check_routes.
+ *
+ * Gives back the number. A plan that passes both checks is safe under every pattern of at most k delays for each carrier.
+ */
+size_t adfulmise_check_meetings(
+    const uint8_t *hall, size_t hall_len,
+    size_t width, size_t height,
+    const uint8_t *carriers, size_t carriers_len,
+    size_t k, size_t h,
+    const uint8_t *plan, size_t plan_len,
+    size_t *told, size_t told_len);
+
+/*
+ * Where a book has the body of a kind: 1 the hall (width, height, hall bytes), 2 the carriers, 3 the limits (k, h).
+ *
+ *   place  its first two entries become the offset and the length of the body in the book, 0 and 0 with a refusal; with fewer it
+ *          is left as it was
+ *
+ * Gives back 0, 11 (shorter than 16 bytes, or byte 0 is not 3), 12 (kinds wrong), 13 (the bodies do not follow one another exactly
+ * to the end), 14 (a body of a wrong length) or 15 (a kind other than 1 to 3).
+ */
+size_t adfulmise_read(const uint8_t *book, size_t book_len, uint8_t kind, size_t *place, size_t place_len);
+
+#ifdef __cplusplus
+}
+#endif
+
+#endif
