@@ -1,2 +1,3 @@
 pub mod LentLaws
 pub mod Reading
+pub mod Settled

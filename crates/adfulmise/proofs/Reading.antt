@@ -1,14 +1,14 @@
 -- In a book that is not refused the bodies stand one after the other from byte 16 on, each as long as its entry says.
 -- Assumes nothing.
-use Prim.Native.Nat.{ℕ, zero, suc, _+_, _≤_}
+use Prim.Native.Nat.{ℕ, _+_, _≤_}
 use native.Mathlib.Omega.{arith}
-use mathlib.Core.List.{List, []}
-use mathlib.Core.Path.{_≡_, refl, sym, ap, _∙_}
+use mathlib.Core.List.{List}
+use mathlib.Core.Path.{_≡_, sym, ap, _∙_}
 use lib.ListN.{length, take, drop}
-use Rattle.book.specs.Book.{bookNumber, bookVerdict, askedVerdict, ifGood, entryOffset, entryLength, entryBody, bodyOf}
+use Rattle.book.specs.Book.{bookNumber, askedVerdict, ifGood, entryOffset, entryLength, entryBody, bodyOf}
 use Rattle.book.specs.declared.BookVerdict.{BookVerdict}
 use Rattle.book.specs.declared.BookVerdict.the-variants.{Good}
-use Rattle.book.proofs.Bodies.{Consecutive, good-consecutive, body-inside, body-length}
+use Rattle.book.proofs.Bodies.{good-consecutive, body-length}
 use Rattle.book.proofs.Verdicts.{asked-good, asked-three, if-refused, refused-empty}
 use Rattle.adfulmise.specs.Lent.{written, placeValues}
 use Rattle.adfulmise.specs.Post.{offsetOf, Read}

@@ -1,6 +1,6 @@
 -- What the exported functions promise: the number given back, and every entry of every list lent.
 use Prim.Native.Nat.{ℕ}
-use mathlib.Core.List.{List, []}
+use mathlib.Core.List.{List}
 use mathlib.Core.Path.{_≡_}
 use lib.ListN.{length, take, drop}
 use Rattle.book.specs.Book.{bookNumber, askedVerdict, ifGood, entryOffset, bodyOf}

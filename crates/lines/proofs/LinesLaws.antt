@@ -1,20 +1,19 @@
 -- Each line is written word after word: what the calls leave in a row is the line. Assumes nothing.
-use Prim.Native.Nat.{ℕ, zero, suc, _+_, _*_, _-_, _≤_, _<_}
+use Prim.Native.Nat.{ℕ, _+_, _*_, _-_, _≤_, _<_}
 use native.Mathlib.Nat.{le-refl, le-trans, mul-le-mul}
 use native.Mathlib.Numerals.{add-one}
 use native.Mathlib.Omega.{arith}
 use mathlib.Core.Bool.{true, false}
 use mathlib.Core.List.{List, [], _∷_, _++_, append-nil, append-assoc}
 use mathlib.Core.Path.{_≡_, refl, sym, ap, _∙_}
-use lib.Dec.{eqb, ltb}
 use lib.ListN.{length, take, drop, getD}
 use lib.Seq.{take-suc, take-all}
-use borrow.Author.Tests.{lt-ltb, le-ltb, eq-eqb, ne-eqb}
+use borrow.Author.Tests.{lt-ltb, le-ltb, ne-eqb}
 use Rattle.lists.specs.Lists.{each}
 use Rattle.job.specs.declared.Team.{Team}
 use Rattle.job.specs.declared.Told.{Told}
 use Rattle.routes.specs.Route.{cost, routeIn}
-use Rattle.text.specs.Text.{Page, page, putByte, put, digits}
+use Rattle.text.specs.Text.{Page, putByte, put, digits}
 use Rattle.text.proofs.TextLaws.{put-append, put-one}
 use Rattle.lines.specs.Lines.{space, answerWord, sumWord, recordsWord, carrierWord, carriersWord, costWord, cellsWord}
 use Rattle.lines.specs.Lines.{numberLine, pairLine, cellsText, costLine, carrierLine, carrierLines, holdsNoPlan, carriersText, planText, restText, toldText}
