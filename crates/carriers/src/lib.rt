@@ -1,8 +1,9 @@
 // The forms in which a caller lends the carriers, turned into a team by value.
 use job::Team;
 ghost use mathlib.Core.Path.{_≡_};
+ghost use mathlib.Core.List.{[], _∷_};
 ghost use lib.ListN.{getD};
-ghost use Rattle.carriers.specs.Lent.{bytesTeam};
+ghost use Rattle.carriers.specs.Lent.{bytesTeam, recordAt, recordsTeam};
 
 fn byte_or_zero(bytes: &[u8], at: usize) -> u8
     ensures { λ r. ⌜ r ≡ getD (now (bytes .entry)) at 0 ⌝ }
@@ -43,4 +44,79 @@ pub fn team_of_bytes(bytes: &[u8]) -> Team
         goals,
         count: bytes.len() / 2,
     }
+}
+
+// 'The list of carriers is lent as a list of records, start and goal each.'
+pub struct Carrier {
+    pub start: u8,
+    pub goal: u8,
+}
+
+// The record at i, or one of two zeros where there is none.
+fn carrier_or(carriers: &[Carrier], i: usize) -> Carrier
+    ensures { λ r. ⌜ r ≡ recordAt (now (carriers .entry)) i ⌝ }
+{
+    if i < carriers.len() {
+        return carriers[i];
+    }
+    Carrier { start: 0, goal: 0 }
+}
+
+// The walk of `team_of_records` is by hand, since a lent list of records is beyond what the prover walks alone. What it need not
+// say is here.
+fn team_of_eight(
+    count: usize,
+    a: Carrier,
+    b: Carrier,
+    c: Carrier,
+    d: Carrier,
+    e: Carrier,
+    f: Carrier,
+    g: Carrier,
+    h: Carrier,
+) -> Team
+    ensures { λ r. ⌜ r ≡ record { starts = a .start ∷ b .start ∷ c .start ∷ d .start ∷ e .start ∷ f .start ∷ g .start ∷ h .start ∷ []; goals = a .goal ∷ b .goal ∷ c .goal ∷ d .goal ∷ e .goal ∷ f .goal ∷ g .goal ∷ h .goal ∷ []; count = count } ⌝ }
+{
+    let starts = [
+        a.start,
+        b.start,
+        c.start,
+        d.start,
+        e.start,
+        f.start,
+        g.start,
+        h.start,
+    ];
+    let goals = [
+        a.goal,
+        b.goal,
+        c.goal,
+        d.goal,
+        e.goal,
+        f.goal,
+        g.goal,
+        h.goal,
+    ];
+    Team {
+        starts,
+        goals,
+        count,
+    }
+}
+
+// Past eight carriers only their count is known, as above.
+pub fn team_of_records(carriers: &[Carrier]) -> Team
+    ensures { λ r. ⌜ r ≡ recordsTeam (now (carriers .entry)) ⌝ }
+{
+    team_of_eight(
+        carriers.len(),
+        carrier_or(carriers, 0),
+        carrier_or(carriers, 1),
+        carrier_or(carriers, 2),
+        carrier_or(carriers, 3),
+        carrier_or(carriers, 4),
+        carrier_or(carriers, 5),
+        carrier_or(carriers, 6),
+        carrier_or(carriers, 7),
+    )
 }
