@@ -25,7 +25,7 @@ use Rattle.lines.specs.Lines.{answerWord, numberLine, toldText}
 use Rattle.lines.specs.Printed.{teamIn, jobIn, resultText, bookText, bookTables, Printed}
 
 -- a text put from the start of a buffer ends inside it
-inside-of : {r : ℕ} {given : List ℕ} (lent text : List ℕ) → page given r ≡ put (page lent 0) text → r ≤ length given
+pub inside-of : {r : ℕ} {given : List ℕ} (lent text : List ℕ) → page given r ≡ put (page lent 0) text → r ≤ length given
 inside-of {r} {given} lent text e =
     let ends : r ≡ put (page lent 0) text .at = ap (λ (p : Page). p .at) e in
     let kept : length given ≡ length lent = ap (λ (p : Page). length (p .bytes)) e ∙ put-kept (page lent 0) text in
