@@ -16,7 +16,7 @@ teamBy start goal count = record { starts = map start eight; goals = map goal ei
 abbrev pub bytesTeam : List ℕ → Team
 bytesTeam bytes = teamBy (λ i. getD bytes (2 * i) 0) (λ i. getD bytes (2 * i + 1) 0) (length bytes / 2)
 
--- 'The list of carriers is lent as a list of records, start and goal each.'
+-- 'The list of carriers is lent as a list of records.' Past its end the record is one of two zeros.
 abbrev pub recordAt : List Carrier → ℕ → Carrier
 recordAt carriers i = getD carriers i (record { start = 0; goal = 0 })
 

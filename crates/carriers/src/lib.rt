@@ -46,7 +46,7 @@ pub fn team_of_bytes(bytes: &[u8]) -> Team
     }
 }
 
-// 'The list of carriers is lent as a list of records, start and goal each.'
+// 'each a record of start cell and goal cell'
 pub struct Carrier {
     pub start: u8,
     pub goal: u8,
@@ -62,8 +62,7 @@ fn carrier_or(carriers: &[Carrier], i: usize) -> Carrier
     Carrier { start: 0, goal: 0 }
 }
 
-// The walk of `team_of_records` is by hand, since a lent list of records is beyond what the prover walks alone. What it need not
-// say is here.
+// Eight records by value as a team. It stands apart since only a function that is lent records has its proof by hand.
 fn team_of_eight(
     count: usize,
     a: Carrier,

@@ -1,5 +1,6 @@
--- `team_of_records` meets its contract: a walk of its MIR, by hand. `carrier_or` is called at 0 to 7, and `team_of_eight` on the count and what came. There is no branch and no loop.
--- Of the slice, which is Copy, one copy is kept. Of each record that comes back only the machine value is kept: what it owns is made anew. Assumes nothing.
+-- `team_of_records` meets its contract: a walk of its MIR, by hand. `carrier_or` is called at 0 to 7, and `team_of_eight` on the
+-- count and what came. There is no branch and no loop. Of the slice, which is Copy, one copy is kept. Of each record that comes
+-- back only the machine value is kept: what it owns is made anew. Assumes nothing.
 use mathlib.Core.Path.{_≡_, refl, sym, ap, subst, _∙_}
 use Prim.Native.Nat.{ℕ, _<_, _^_}
 use mathlib.Core.List.{List, [], _∷_}

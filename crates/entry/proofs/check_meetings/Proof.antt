@@ -1,6 +1,6 @@
--- `check_meetings` meets its contract: a walk of its MIR, by hand. `team_of_records` is called on the lent records, and `checks::check_meetings`, which is
--- covered, on the team and on all else that was passed. The `&` slices are Copy and one copy of each is kept.
--- Assumes nothing.
+-- `check_meetings` meets its contract: a walk of its MIR, by hand. `team_of_records` is called on the lent records, and
+-- `checks::check_meetings`, which is covered, on the team and on all else that was passed. The `&` slices are Copy and one copy
+-- of each is kept. Assumes nothing.
 use mathlib.Core.Path.{_≡_, refl, subst}
 use Prim.Native.Nat.{ℕ, _<_, _^_}
 use mathlib.Core.List.{List, [], _∷_}
