@@ -201,8 +201,8 @@ fn judge_kind(kind: u8) -> BookVerdict
     BookVerdict::Good
 }
 
-// The reader's answers 11 to 15: 15 comes 'after 11 to 14'.
-pub fn judge_asked(book: &[u8], kind: u8) -> BookVerdict
+// Answers 11 to 15: 15 comes 'after 11 to 14'.
+fn parse_answer(book: &[u8], kind: u8) -> BookVerdict
     ensures { λ r. ⌜ r ≡ askedVerdict (now (book .entry)) kind ⌝ }
 {
     let verdict = judge_book(book);
@@ -212,12 +212,11 @@ pub fn judge_asked(book: &[u8], kind: u8) -> BookVerdict
     verdict
 }
 
-// 'Asked for one kind, the reader hands back that body as a part of the lent book'; 'with any refusal the part handed back
-// is empty'.
-pub fn body(book: &[u8], kind: u8) -> &[u8]
+// The body of a kind as a part of the book; 'with any refusal the part handed back is empty'.
+fn parse_body(book: &[u8], kind: u8) -> &[u8]
     ensures { λ r. ⌜ now r ≡ bodyOf (now (book .entry)) kind ⌝ }
 {
-    let verdict = judge_asked(book, kind);
+    let verdict = parse_answer(book, kind);
     if let BookVerdict::Good = verdict {
         let n = kind as usize;
         let start = entry_offset(book, n);
@@ -225,4 +224,36 @@ pub fn body(book: &[u8], kind: u8) -> &[u8]
         return &book[start..end];
     }
     &book[0..0]
+}
+
+// 'The reader is a small state that refers to the book it was given.'
+pub struct Reader<'a> {
+    pub book: &'a [u8],
+}
+
+// What the reader answers, asked for one kind.
+pub fn reader_answer<'a>(reader: Reader<'a>, kind: u8) -> BookVerdict
+    ensures { λ r. ⌜ r ≡ askedVerdict (now (reader .entry .book)) kind ⌝ }
+{
+    parse_answer(reader.book, kind)
+}
+
+// 'Asked for one kind, the reader hands back that body as a part of the lent book'.
+pub fn reader_body<'a>(reader: Reader<'a>, kind: u8) -> &'a [u8]
+    ensures { λ r. ⌜ now r ≡ bodyOf (now (reader .entry .book)) kind ⌝ }
+{
+    parse_body(reader.book, kind)
+}
+
+// For every caller that has a plain slice: a reader of it is asked, and the caller needs no walk by hand.
+pub fn judge_asked(book: &[u8], kind: u8) -> BookVerdict
+    ensures { λ r. ⌜ r ≡ askedVerdict (now (book .entry)) kind ⌝ }
+{
+    reader_answer(Reader { book }, kind)
+}
+
+pub fn body(book: &[u8], kind: u8) -> &[u8]
+    ensures { λ r. ⌜ now r ≡ bodyOf (now (book .entry)) kind ⌝ }
+{
+    reader_body(Reader { book }, kind)
 }
