@@ -92,7 +92,7 @@ const MOVES: [Move; 5] = [
 pub const MOVE_COUNT: usize = 5;
 
 // How far down move m goes, counted one up: 0 is one row up.
-fn down(m: usize) -> usize
+pub fn down(m: usize) -> usize
     requires { ⌜ m < 5 ⌝ }
     ensures { λ r. ⌜ r ≡ getD rowChanges m 1 ⌝ }
 {
@@ -101,7 +101,7 @@ fn down(m: usize) -> usize
 }
 
 // How far right move m goes, counted one up: 0 is one column left.
-fn right(m: usize) -> usize
+pub fn right(m: usize) -> usize
     requires { ⌜ m < 5 ⌝ }
     ensures { λ r. ⌜ r ≡ getD colChanges m 1 ⌝ }
 {

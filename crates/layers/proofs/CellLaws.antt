@@ -22,7 +22,7 @@ use Rattle.hall.proofs.Lists.{member-each, member-range}
 use Rattle.hall.proofs.Reach.{reach-inside}
 use Rattle.routes.specs.Route.{stepCost}
 use Rattle.layers.specs.Layers.{crossingStarts}
-use Rattle.layers.specs.Fill.{lentHall, levelIn, leastOf, halves, odd, unless, turnsBy, afterStep, mayBegin, madeLevel, lastLevel, madeByte, lastByte}
+use Rattle.layers.specs.Fill.{lentHall, levelIn, leastOf, leastTo, halves, odd, unless, turnsBy, afterStep, mayBegin, madeLevel, lastLevel, madeByte, lastByte}
 use Rattle.layers.proofs.Levels.{step-most}
 
 -- ---- the numbers of cells are small
@@ -70,11 +70,6 @@ free-move f rest r ws n e = rw (ne-eqb (rest % 2) 1 n) e
 
 -- ---- the least level, move by move
 
--- the least of the first n
-unfoldable pub leastTo : ℕ → (ℕ → ℕ) → ℕ
-leastTo zero f = 127
-leastTo (suc n) f = min (leastTo n f) (f n)
-
 pub least-most : (cs : List ℕ) → leastOf cs ≤ 127
 unfolding leastOf
 least-most [] = omega arith
@@ -100,7 +95,7 @@ leastTo-suc : (n : ℕ) (f : ℕ → ℕ) → leastTo (suc n) f ≡ min (leastTo
 unfolding leastTo
 leastTo-suc n f = refl
 
-leastTo-most : (n : ℕ) (f : ℕ → ℕ) → leastTo n f ≤ 127
+pub leastTo-most : (n : ℕ) (f : ℕ → ℕ) → leastTo n f ≤ 127
 unfolding leastTo
 leastTo-most zero f = omega arith
 leastTo-most (suc n) f = omega (arith, leastTo-most n f)
@@ -184,7 +179,7 @@ step-more false (suc c) n k = rw (afterStep, ne-eqb (suc c) 127 n) (omega arith)
 
 -- ---- a level fits a byte, with the crossing's mark
 
-step-small : (b : Bool) (least : ℕ) → least ≤ 127 → afterStep b least ≤ 127
+pub step-small : (b : Bool) (least : ℕ) → least ≤ 127 → afterStep b least ≤ 127
 unfolding afterStep stepCost
 step-small b least h = go b (eqb least 127) refl
   where
@@ -192,7 +187,7 @@ step-small b least h = go b (eqb least 127) refl
     go b true e = omega arith
     go b false e = let n : ¬ (least ≡ 127) = eqb-false least 127 e in omega (arith, step-most b least)
 
-made-small : (hall : Hall) (goal : ℕ) (f : ℕ → ℕ) (v mark : ℕ) → madeLevel hall goal f v mark ≤ 127
+pub made-small : (hall : Hall) (goal : ℕ) (f : ℕ → ℕ) (v mark : ℕ) → madeLevel hall goal f v mark ≤ 127
 unfolding madeLevel
 made-small hall goal f v mark = go (mayBegin hall v mark)
   where
@@ -200,7 +195,7 @@ made-small hall goal f v mark = go (mayBegin hall v mark)
     go true = step-small (eqb v goal) (leastOf (map f (turnsBy (hall .width) (hall .height) (v / hall .width) (v % hall .width) mark))) (least-most (map f (turnsBy (hall .width) (hall .height) (v / hall .width) (v % hall .width) mark)))
     go false = omega arith
 
-last-small : (hall : Hall) (goal v mark : ℕ) → lastLevel hall goal v mark ≤ 127
+pub last-small : (hall : Hall) (goal v mark : ℕ) → lastLevel hall goal v mark ≤ 127
 unfolding lastLevel
 last-small hall goal v mark = go (mayBegin hall v mark && eqb v goal)
   where
@@ -220,7 +215,7 @@ pub crossing-one : (mark : ℕ) → (mark ≡ 0 → ⊥) → (mark ≡ 255 → �
 unfolding crossingStarts
 crossing-one mark n k = rw (crossingStarts, ne-eqb mark 0 n, ne-eqb mark 255 k)
 
-crossing-small : (mark : ℕ) → crossingStarts mark ≤ 128
+pub crossing-small : (mark : ℕ) → crossingStarts mark ≤ 128
 unfolding crossingStarts
 crossing-small mark = go (eqb mark 0) (eqb mark 255)
   where

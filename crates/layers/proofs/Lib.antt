@@ -2,6 +2,7 @@ pub mod CellLaws
 pub mod Filled
 pub mod Levels
 pub mod MadeLaws
+pub mod NearLaws
 pub mod SeekLaws
 pub mod StepLaws
 pub mod Turns

@@ -1,18 +1,20 @@
 -- Layers while they are made, from the top down: what is made is never written again, and what is still to be made is a mark. So one cell
 -- more, one row more and one layer more keep what is said of the rest.
 -- Assumes nothing.
-use Prim.Native.Nat.{ℕ, _+_, _*_, _%_, _≤_, _<_}
+use Prim.Native.Nat.{ℕ, _+_, _*_, _/_, _%_, _≤_, _<_}
 use native.Mathlib.Nat.{mul-comm, suc-mul, mul-le-mul-right}
 use native.Mathlib.Omega.{arith}
 use native.Mathlib.Numerals.{add-one}
 use native.Mathlib.Decide.{ℕ-discrete, decLt}
 use mathlib.Core.Path.{_≡_, refl, sym, ap, subst, _∙_}
-use mathlib.Core.List.{List}
+use mathlib.Core.Bool.{true, false}
+use mathlib.Core.List.{List, map}
 use lib.ListN.{length, getD, set, length-set}
 use lib.Seq.{getD-set-same, getD-set-other}
+use borrow.Author.Tests.{ne-eqb}
 use Rattle.hall.specs.Hall.{Hall, size}
 use Rattle.layers.specs.Layers.{crossingStarts}
-use Rattle.layers.specs.Fill.{levelIn, madeByte, lastByte, Made, MadeFrom, Levelled}
+use Rattle.layers.specs.Fill.{levelIn, leastOf, turnsBy, afterStep, mayBegin, madeLevel, madeByte, lastByte, Made, MadeFrom, Levelled}
 use Rattle.layers.proofs.Filled.{made-same}
 
 -- ---- part of a layer
@@ -38,6 +40,21 @@ module _ (base lo hi : ℕ) (byte : ℕ → ℕ → ℕ) (a b : List ℕ) (m : M
       here v l h (yes q) = rw q (getD-set-same b (base + lo) x 0 (omega (arith, m .long)) ∙ e)
       here v l h (no n) = getD-set-other b (base + lo) (base + v) x 0 (λ q. n (omega arith)) ∙ m .made v (omega (arith, n)) h
 
+-- the same upwards
+module _ (base lo hi : ℕ) (byte : ℕ → ℕ → ℕ) (a b : List ℕ) (m : Made base lo hi byte a b) (low : lo ≤ hi) (room : base + hi < length a) where
+  pub made-up : (x : ℕ) → x ≡ byte hi (getD a (base + hi) 0) → Made base lo (hi + 1) byte a (set b (base + hi) x)
+  made-up x e =
+      record {
+        long = length-set b (base + hi) x ∙ m .long;
+        made = λ v l h. here v l h (ℕ-discrete v hi);
+        under = λ y h. getD-set-other b (base + hi) y x 0 (λ q. absurd (omega arith)) ∙ m .under y h;
+        over = λ y h. getD-set-other b (base + hi) y x 0 (λ q. absurd (omega arith)) ∙ m .over y (omega arith);
+      }
+    where
+      here : (v : ℕ) → lo ≤ v → v < hi + 1 → Dec (v ≡ hi) → getD (set b (base + hi) x) (base + v) 0 ≡ byte v (getD a (base + v) 0)
+      here v l h (yes q) = rw q (getD-set-same b (base + hi) x 0 (omega (arith, m .long)) ∙ e)
+      here v l h (no n) = getD-set-other b (base + hi) (base + v) x 0 (λ q. n (omega arith)) ∙ m .made v l (omega (arith, n))
+
 -- part of it below another
 pub made-join : (base lo mid hi : ℕ) (byte bytf : ℕ → ℕ → ℕ) (a b c : List ℕ) → Made base mid hi byte a b → Made base lo mid bytf b c → ((v mark : ℕ) → bytf v mark ≡ byte v mark) → lo ≤ mid → mid ≤ hi → Made base lo hi byte a c
 made-join base lo mid hi byte bytf a b c m n same low high =
@@ -54,9 +71,16 @@ made-join base lo mid hi byte bytf a b c m n same low high =
 
 -- ---- a byte is made of the next layer alone
 
-byte-same : (hall : Hall) (goal : ℕ) (a b : List ℕ) (next v mark : ℕ) → ((w : ℕ) → w < size hall → getD b (next + w) 0 ≡ getD a (next + w) 0) → madeByte hall goal b next v mark ≡ madeByte hall goal a next v mark
+pub byte-same : (hall : Hall) (goal : ℕ) (a b : List ℕ) (next v mark : ℕ) → ((w : ℕ) → w < size hall → getD b (next + w) 0 ≡ getD a (next + w) 0) → madeByte hall goal b next v mark ≡ madeByte hall goal a next v mark
 unfolding madeByte levelIn
 byte-same hall goal a b next v mark h = ap (λ x. x + crossingStarts mark) (made-same hall goal (levelIn b next) (levelIn a next) v mark (λ w l. ap (λ x. x % 128) (h w l)))
+
+-- of the goal a byte knows only whether it is this cell
+away-same : (hall : Hall) (a : List ℕ) (next v mark goal other : ℕ) → (v ≡ goal → ⊥) → (v ≡ other → ⊥) → madeByte hall goal a next v mark ≡ madeByte hall other a next v mark
+unfolding madeByte madeLevel
+away-same hall a next v mark goal other n k =
+    ap (λ b. elim (mayBegin hall v mark) [ true ↦ afterStep b (leastOf (map (levelIn a next) (turnsBy (hall .width) (hall .height) (v / hall .width) (v % hall .width) mark))) | false ↦ 127 ] + crossingStarts mark)
+    (ne-eqb v goal n ∙ sym (ne-eqb v other k))
 
 module _ (hall : Hall) (goal base lo mid hi : ℕ) (a b c : List ℕ) (inside : hi ≤ size hall) where
   row-same : Made base mid hi (madeByte hall goal a (base + size hall)) a b → (v mark : ℕ) → madeByte hall goal b (base + size hall) v mark ≡ madeByte hall goal a (base + size hall) v mark
@@ -73,6 +97,34 @@ module _ (hall : Hall) (goal base lo mid hi : ℕ) (a b c : List ℕ) (inside : 
   -- one row more of a layer
   pub rows-more : Made base mid hi (madeByte hall goal a (base + size hall)) a b → Made base lo mid (madeByte hall goal b (base + size hall)) b c → lo ≤ mid → mid ≤ hi → Made base lo hi (madeByte hall goal a (base + size hall)) a c
   rows-more m n low high = made-join base lo mid hi (madeByte hall goal a (base + size hall)) (madeByte hall goal b (base + size hall)) a b c m n (row-same m) low high
+
+module _ (hall : Hall) (goal base : ℕ) (a b : List ℕ) where
+  -- the goal, filled apart
+  pub goal-filled : (byte : ℕ) → Made base 0 (size hall) (madeByte hall (size hall) a (base + size hall)) a b → goal < size hall → base + size hall ≤ length a → byte ≡ madeByte hall goal a (base + size hall) goal (getD a (base + goal) 0) → Made base 0 (size hall) (madeByte hall goal a (base + size hall)) a (set b (base + goal) byte)
+  goal-filled byte m l room e =
+      record {
+        long = length-set b (base + goal) byte ∙ m .long;
+        made = λ v k h. here v h (ℕ-discrete v goal);
+        under = λ x k. getD-set-other b (base + goal) x byte 0 (λ q. absurd (omega arith)) ∙ m .under x k;
+        over = λ x k. getD-set-other b (base + goal) x byte 0 (λ q. absurd (omega arith)) ∙ m .over x k;
+      }
+    where
+      here : (v : ℕ) → v < size hall → Dec (v ≡ goal) → getD (set b (base + goal) byte) (base + v) 0 ≡ madeByte hall goal a (base + size hall) v (getD a (base + v) 0)
+      here v h (yes q) = rw q (getD-set-same b (base + goal) byte 0 (omega (arith, m .long)) ∙ e)
+      here v h (no n) =
+          getD-set-other b (base + goal) (base + v) byte 0 (λ q. n (omega arith))
+          ∙ m .made v (omega arith) h
+          ∙ away-same hall a (base + size hall) v (getD a (base + v) 0) (size hall) goal (λ q. absurd (omega arith)) n
+
+  -- a goal that is nowhere
+  pub goal-nowhere : Made base 0 (size hall) (madeByte hall (size hall) a (base + size hall)) a b → size hall ≤ goal → Made base 0 (size hall) (madeByte hall goal a (base + size hall)) a b
+  goal-nowhere m l =
+      record {
+        long = m .long;
+        made = λ v k h. m .made v k h ∙ away-same hall a (base + size hall) v (getD a (base + v) 0) (size hall) goal (λ q. absurd (omega arith)) (λ q. absurd (omega arith));
+        under = m .under;
+        over = m .over;
+      }
 
 -- one cell more of the last layer
 pub last-more : (hall : Hall) (goal base lo mid hi : ℕ) (a b c : List ℕ) → Made base mid hi (lastByte hall goal) a b → lo + 1 ≡ mid → mid ≤ hi → base + hi ≤ length a → c ≡ set b (base + lo) (lastByte hall goal lo (getD b (base + lo) 0)) → Made base lo hi (lastByte hall goal) a c

@@ -1,16 +1,16 @@
 -- How one layer is made of the next: a byte, which was a mark, becomes a level. Not a reader's business: the law `levelled-is-filled`
 -- ties it to the best way on.
-use Prim.Native.Nat.{ℕ, zero, suc, _+_, _*_, _/_, _%_, min, _≤_, _<_}
+use Prim.Native.Nat.{ℕ, zero, suc, _+_, _-_, _*_, _/_, _%_, min, _≤_, _<_}
 use mathlib.Core.Path.{_≡_}
-use mathlib.Core.Bool.{Bool, true, false, not, _&&_}
+use mathlib.Core.Bool.{Bool, true, false, not, _&&_, _||_}
 use mathlib.Core.List.{List, [], _∷_, map}
 use lib.Dec.{eqb}
 use lib.ListN.{length, getD}
-use Rattle.lists.specs.Lists.{range, each}
+use Rattle.lists.specs.Lists.{range, each, sumTo}
 use Rattle.hall.specs.Hall.{Hall, size, isOpen}
-use Rattle.hall.specs.Moves.{landing, moveCount}
+use Rattle.hall.specs.Moves.{rowChanges, colChanges, rowAfter, colAfter, onGrid, landing, moveCount}
 use Rattle.routes.specs.Route.{stepCost}
-use Rattle.marks.specs.Marks.{SameFrom}
+use Rattle.marks.specs.Marks.{digit, SameFrom}
 use Rattle.layers.specs.Layers.{crossingStarts}
 
 -- the hall of the bytes that are lent
@@ -60,6 +60,45 @@ madeLevel hall goal onward v mark =
 
 unfoldable pub lastLevel : Hall → ℕ → ℕ → ℕ → ℕ
 lastLevel hall goal v mark = elim (mayBegin hall v mark && eqb v goal) [ true ↦ 0 | false ↦ 127 ]
+
+-- ---- one byte in a row that is neither the first nor the last
+
+-- what no bar changes: 255 where a cell is closed, otherwise a binary digit for each move that leaves the grid
+
+unfoldable pub leaves : ℕ → ℕ → ℕ → ℕ → ℕ → Bool
+leaves width height row col m = not (onGrid width height (rowAfter row m) (colAfter col m))
+
+unfoldable pub edgeMark : ℕ → ℕ → ℕ → ℕ → ℕ
+edgeMark width height row col = sumTo moveCount (λ m. digit (leaves width height row col m) m)
+
+unfoldable pub floorMark : Hall → ℕ → ℕ
+floorMark hall v = elim (isOpen hall v) [ true ↦ edgeMark (hall .width) (hall .height) (v / hall .width) (v % hall .width) | false ↦ 255 ]
+
+pub record Floored (hall : Hall) (floor : List ℕ) : Type 0 where
+  pub room : size hall ≤ length floor
+  pub marks : (v : ℕ) → v < size hall → getD floor v 0 ≡ floorMark hall v
+
+-- the least of f 0 .. f (n - 1)
+unfoldable pub leastTo : ℕ → (ℕ → ℕ) → ℕ
+leastTo zero f = 127
+leastTo (suc n) f = min (leastTo n f) (f n)
+
+-- the entry that move m leads to from the entry `under`
+unfoldable pub nearEntry : ℕ → ℕ → ℕ → ℕ
+nearEntry width under m = under + width * getD rowChanges m 1 + getD colChanges m 1 - (width + 1)
+
+unfoldable pub orNone : Bool → ℕ → ℕ
+orNone true level = 127
+orNone false level = level
+
+-- its level, unless the mark or the floor has the digit of the move
+unfoldable pub nearLevel : List ℕ → ℕ → ℕ → ℕ → ℕ → ℕ → ℕ
+nearLevel layers width under mark floor m = orNone (odd (halves m mark) || odd (halves m floor)) (getD layers (nearEntry width under m) 0 % 128)
+
+-- the byte of a cell that is not the goal
+unfoldable pub nearByte : List ℕ → ℕ → ℕ → ℕ → ℕ → ℕ
+nearByte layers width under mark floor =
+    orNone (eqb mark 255 || eqb floor 255) (afterStep false (leastTo moveCount (nearLevel layers width under mark floor))) + crossingStarts mark
 
 -- ---- many bytes
 

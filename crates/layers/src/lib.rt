@@ -4,20 +4,21 @@
 use hall::Landing;
 use routes::Bar;
 ghost use Prim.Native.Nat.{_+_, _-_, _*_, _/_, _%_, min, _≤_, _<_};
+ghost use mathlib.Core.Bool.{false, _||_};
 ghost use mathlib.Core.Path.{_≡_};
 ghost use mathlib.Core.List.{map};
-ghost use lib.Dec.{leb};
+ghost use lib.Dec.{eqb, leb};
 ghost use lib.ListN.{length, getD, set};
 ghost use Rattle.lists.specs.Lists.{keep};
-ghost use Rattle.hall.specs.Moves.{landing, reachFrom};
+ghost use Rattle.hall.specs.Moves.{landing, moveCount, reachFrom};
 ghost use Rattle.hall.specs.Landing.{landed};
 ghost use Rattle.records.specs.Columns.{Falls};
-ghost use Rattle.marks.specs.Marks.{boundBy};
+ghost use Rattle.marks.specs.Marks.{boundBy, digit};
 ghost use Rattle.marks.specs.Post.{Layered};
 ghost use Rattle.layers.specs.Layers.{crossingStarts, routeFrom, writtenRoute, Filled};
 ghost use Rattle.layers.specs.Post.{SoughtRoute};
 ghost use Rattle.layers.specs.Write.{mayGo, goesTo, goneTo};
-ghost use Rattle.layers.specs.Fill.{lentHall, levelIn, leastOf, odd, unless, turnsBy, afterStep, madeLevel, lastLevel, madeByte, lastByte, Made, MadeFrom, Levelled};
+ghost use Rattle.layers.specs.Fill.{lentHall, levelIn, leastOf, leastTo, odd, unless, turnsBy, afterStep, orNone, leaves, edgeMark, floorMark, nearEntry, nearLevel, nearByte, madeLevel, lastLevel, madeByte, lastByte, Floored, Made, MadeFrom, Levelled};
 
 // The level of a cell from which there is no way to the goal.
 const NO_WAY: usize = 127;
@@ -163,16 +164,16 @@ fn cell_level(
     NO_WAY
 }
 
-fn crossing(mark: usize) -> usize
+fn crossing(mark: u8) -> u8
     ensures { λ r. ⌜ r ≡ crossingStarts mark ⌝ }
 {
     if mark == 0 {
         return 0;
     }
-    if mark == BARRED {
+    if mark == marks::BARRED {
         return 0;
     }
-    CROSSING
+    CROSSING as u8
 }
 
 // The level of a cell at the horizon.
@@ -194,6 +195,35 @@ fn last_level(hall: &[u8], width: usize, height: usize, goal: usize, v: usize, m
 
 // ---- one layer
 
+// The byte of a cell before the horizon, of its mark and of the layer that follows.
+fn byte_of(
+    hall: &[u8],
+    width: usize,
+    height: usize,
+    goal: usize,
+    base: usize,
+    row: usize,
+    col: usize,
+    layers: &[u8],
+) -> u8
+    requires { ⌜ (width ≤ 16) × (height ≤ 16) × (row < height) × (col < width) × (base + width * height + width * height ≤ length (now layers)) ⌝ }
+    ensures { λ r. ⌜ r ≡ madeByte (lentHall width height (now (hall .entry))) goal (now (layers .entry)) (base + width * height) (row * width + col) (getD (now (layers .entry)) (base + (row * width + col)) 0) ⌝ }
+{
+    let mark = layers[base + (row * width + col)];
+    let level = cell_level(
+        hall,
+        layers,
+        width,
+        height,
+        goal,
+        base + width * height,
+        row,
+        col,
+        mark as usize,
+    );
+    level as u8 + crossing(mark)
+}
+
 fn fill_cell(
     hall: &[u8],
     width: usize,
@@ -207,20 +237,8 @@ fn fill_cell(
     requires { ⌜ (width ≤ 16) × (height ≤ 16) × (row < height) × (col < width) × (base + width * height + width * height ≤ length (now layers)) ⌝ }
     ensures { λ _. ⌜ now (layers .exit) ≡ set (now (layers .entry)) (base + (row * width + col)) (madeByte (lentHall width height (now (hall .entry))) goal (now (layers .entry)) (base + width * height) (row * width + col) (getD (now (layers .entry)) (base + (row * width + col)) 0)) ⌝ }
 {
-    let at = base + (row * width + col);
-    let mark = layers[at] as usize;
-    let level = cell_level(
-        hall,
-        layers,
-        width,
-        height,
-        goal,
-        base + width * height,
-        row,
-        col,
-        mark,
-    );
-    layers[at] = (level + crossing(mark)) as u8;
+    let byte = byte_of(hall, width, height, goal, base, row, col, layers);
+    layers[base + (row * width + col)] = byte;
 }
 
 fn fill_row(
@@ -242,16 +260,217 @@ fn fill_row(
     }
 }
 
-// A layer before the horizon, of the one that follows it.
-fn fill_layer(hall: &[u8], width: usize, height: usize, goal: usize, base: usize, layers: &mut [u8])
-    requires { ⌜ (width ≤ 16) × (height ≤ 16) × (base + width * height + width * height ≤ length (now layers)) ⌝ }
+// ---- the rows between the first and the last, where up and down never leave the grid
+
+// One more than the greatest cell number.
+const CELLS: usize = 256;
+
+// The digit of move m where it leaves the grid.
+fn edge_digit(width: usize, height: usize, row: usize, col: usize, m: usize) -> u8
+    requires { ⌜ (width ≤ 16) × (height ≤ 16) × (row < 256) × (col < 256) × (m < 5) ⌝ }
+    ensures { λ r. ⌜ r ≡ digit (leaves width height row col m) m ⌝ }
+{
+    let l = hall::landing_at(width, height, row, col, m);
+    match l {
+        Landing::Off => marks::digit_of(m),
+        Landing::Cell(_) => 0,
+    }
+}
+
+fn edge_mark(width: usize, height: usize, row: usize, col: usize) -> u8
+    requires { ⌜ (width ≤ 16) × (height ≤ 16) × (row < 256) × (col < 256) ⌝ }
+    ensures { λ r. ⌜ r ≡ edgeMark width height row col ⌝ }
+{
+    let mut mark = 0;
+    let mut m = 0;
+    while m < MOVE_COUNT {
+        mark += edge_digit(width, height, row, col, m);
+        m += 1;
+    }
+    mark
+}
+
+fn floor_mark(hall: &[u8], width: usize, height: usize, v: usize) -> u8
+    requires { ⌜ (1 ≤ width) × (width ≤ 16) × (height ≤ 16) × (v < 256) ⌝ }
+    ensures { λ r. ⌜ r ≡ floorMark (lentHall width height (now (hall .entry))) v ⌝ }
+{
+    if hall::is_open(hall, width, height, v) {
+        return edge_mark(width, height, v / width, v % width);
+    }
+    marks::BARRED
+}
+
+// What no bar changes, worked out once a route: 'It never leaves the grid nor enters a closed cell.'
+fn lay_floor(hall: &[u8], width: usize, height: usize, floor: &mut [u8])
+    requires { ⌜ (1 ≤ width) × (width ≤ 16) × (height ≤ 16) × (width * height ≤ length (now floor)) ⌝ }
+    ensures { λ _. ⌜ Floored (lentHall width height (now (hall .entry))) (now (floor .exit)) ⌝ }
+{
+    let mut v = 0;
+    while v < width * height {
+        floor[v] = floor_mark(hall, width, height, v);
+        v += 1;
+    }
+}
+
+// The level that move m leads to from the entry `under`. It is read before the digits are asked, so that the compiler may do
+// many cells at once.
+fn near_level(layers: &[u8], width: usize, under: usize, m: usize, rest: u8, shut: u8) -> u8
+    requires { ⌜ (1 ≤ width) × (width ≤ 16) × (width ≤ under) × (under + width < length (now layers)) × (m < 5) ⌝ }
+    ensures { λ r. ⌜ r ≡ orNone (odd rest || odd shut) (getD (now (layers .entry)) (nearEntry width under m) 0 % 128) ⌝ }
+{
+    let level = layers[under + width * hall::down(m) + hall::right(m) - (width + 1)] % 128;
+    if rest % 2 == 1 {
+        return NO_WAY as u8;
+    }
+    if shut % 2 == 1 {
+        return NO_WAY as u8;
+    }
+    level
+}
+
+fn lesser_byte(a: u8, b: u8) -> u8
+    ensures { λ r. ⌜ r ≡ min a b ⌝ }
+{
+    if a <= b { a } else { b }
+}
+
+fn least_near(layers: &[u8], width: usize, under: usize, mark: u8, floor: u8) -> u8
+    requires { ⌜ (1 ≤ width) × (width ≤ 16) × (width ≤ under) × (under + width < length (now layers)) ⌝ }
+    ensures { λ r. ⌜ r ≡ leastTo moveCount (nearLevel (now (layers .entry)) width under mark floor) ⌝ }
+{
+    let mut least = NO_WAY as u8;
+    let mut rest = mark;
+    let mut shut = floor;
+    let mut m = 0;
+    while m < MOVE_COUNT {
+        least = lesser_byte(least, near_level(layers, width, under, m, rest, shut));
+        rest = rest / 2;
+        shut = shut / 2;
+        m += 1;
+    }
+    least
+}
+
+// The level of a cell that is not the goal.
+fn way_on(mark: u8, floor: u8, least: u8) -> u8
+    requires { ⌜ least ≤ 127 ⌝ }
+    ensures { λ r. ⌜ r ≡ orNone (eqb mark 255 || eqb floor 255) (afterStep false least) ⌝ }
+{
+    if mark == marks::BARRED {
+        return NO_WAY as u8;
+    }
+    if floor == marks::BARRED {
+        return NO_WAY as u8;
+    }
+    if least == NO_WAY as u8 {
+        return NO_WAY as u8;
+    }
+    least + 1
+}
+
+fn near_byte(layers: &[u8], width: usize, under: usize, mark: u8, floor: u8) -> u8
+    requires { ⌜ (1 ≤ width) × (width ≤ 16) × (width ≤ under) × (under + width < length (now layers)) ⌝ }
+    ensures { λ r. ⌜ r ≡ nearByte (now (layers .entry)) width under mark floor ⌝ }
+{
+    let least = least_near(layers, width, under, mark, floor);
+    way_on(mark, floor, least) + crossing(mark)
+}
+
+fn fill_near(width: usize, under: usize, at: usize, floor: u8, layers: &mut [u8])
+    requires { ⌜ (1 ≤ width) × (width ≤ 16) × (width ≤ under) × (under + width < length (now layers)) × (at < length (now layers)) ⌝ }
+    ensures { λ _. ⌜ now (layers .exit) ≡ set (now (layers .entry)) at (nearByte (now (layers .entry)) width under (getD (now (layers .entry)) at 0) floor) ⌝ }
+{
+    let byte = near_byte(layers, width, under, layers[at], floor);
+    layers[at] = byte;
+}
+
+fn fill_between(
+    hall: &[u8],
+    floor: &[u8],
+    width: usize,
+    height: usize,
+    base: usize,
+    layers: &mut [u8],
+)
+    requires { ⌜ (1 ≤ width) × (width ≤ 16) × (height ≤ 16) × (base + width * height + width * height ≤ length (now layers)) ⌝ }
+    requires { ⌜ Floored (lentHall width height (now hall)) (now floor) ⌝ }
+    ensures { λ _. ⌜ Made base width (width * height - width) (madeByte (lentHall width height (now (hall .entry))) (width * height) (now (layers .entry)) (base + width * height)) (now (layers .entry)) (now (layers .exit)) ⌝ }
+{
+    let size = width * height;
+    let mut v = width;
+    while v + width < size {
+        fill_near(width, base + size + v, base + v, floor[v], layers);
+        v += 1;
+    }
+}
+
+// All rows but the first, with the goal nowhere.
+fn fill_below(
+    hall: &[u8],
+    floor: &[u8],
+    width: usize,
+    height: usize,
+    base: usize,
+    layers: &mut [u8],
+)
+    requires { ⌜ (1 ≤ width) × (width ≤ 16) × (1 ≤ height) × (height ≤ 16) × (base + width * height + width * height ≤ length (now layers)) ⌝ }
+    requires { ⌜ Floored (lentHall width height (now hall)) (now floor) ⌝ }
+    ensures { λ _. ⌜ Made base width (width * height) (madeByte (lentHall width height (now (hall .entry))) (width * height) (now (layers .entry)) (base + width * height)) (now (layers .entry)) (now (layers .exit)) ⌝ }
+{
+    if height == 1 {
+        return;
+    }
+    fill_row(
+        hall,
+        width,
+        height,
+        width * height,
+        base,
+        height - 1,
+        layers,
+    );
+    fill_between(hall, floor, width, height, base, layers);
+}
+
+fn fill_rows(hall: &[u8], floor: &[u8], width: usize, height: usize, base: usize, layers: &mut [u8])
+    requires { ⌜ (1 ≤ width) × (width ≤ 16) × (1 ≤ height) × (height ≤ 16) × (base + width * height + width * height ≤ length (now layers)) ⌝ }
+    requires { ⌜ Floored (lentHall width height (now hall)) (now floor) ⌝ }
+    ensures { λ _. ⌜ Made base 0 (width * height) (madeByte (lentHall width height (now (hall .entry))) (width * height) (now (layers .entry)) (base + width * height)) (now (layers .entry)) (now (layers .exit)) ⌝ }
+{
+    fill_below(hall, floor, width, height, base, layers);
+    fill_row(hall, width, height, width * height, base, 0, layers);
+}
+
+// A layer before the horizon, of the one that follows it. The goal is filled apart, so that all other cells are filled alike.
+fn fill_layer(
+    hall: &[u8],
+    floor: &[u8],
+    width: usize,
+    height: usize,
+    goal: usize,
+    base: usize,
+    layers: &mut [u8],
+)
+    requires { ⌜ (1 ≤ width) × (width ≤ 16) × (1 ≤ height) × (height ≤ 16) × (base + width * height + width * height ≤ length (now layers)) ⌝ }
+    requires { ⌜ Floored (lentHall width height (now hall)) (now floor) ⌝ }
     ensures { λ _. ⌜ Made base 0 (width * height) (madeByte (lentHall width height (now (hall .entry))) goal (now (layers .entry)) (base + width * height)) (now (layers .entry)) (now (layers .exit)) ⌝ }
 {
-    let mut row = height;
-    while 0 < row {
-        row -= 1;
-        fill_row(hall, width, height, goal, base, row, layers);
+    if width * height <= goal {
+        fill_rows(hall, floor, width, height, base, layers);
+        return;
     }
+    let byte = byte_of(
+        hall,
+        width,
+        height,
+        goal,
+        base,
+        goal / width,
+        goal % width,
+        layers,
+    );
+    fill_rows(hall, floor, width, height, base, layers);
+    layers[base + goal] = byte;
 }
 
 fn last_cell(
@@ -267,8 +486,8 @@ fn last_cell(
     ensures { λ _. ⌜ now (layers .exit) ≡ set (now (layers .entry)) (base + v) (lastByte (lentHall width height (now (hall .entry))) goal v (getD (now (layers .entry)) (base + v) 0)) ⌝ }
 {
     let at = base + v;
-    let mark = layers[at] as usize;
-    layers[at] = (last_level(hall, width, height, goal, v, mark) + crossing(mark)) as u8;
+    let mark = layers[at];
+    layers[at] = last_level(hall, width, height, goal, v, mark as usize) as u8 + crossing(mark);
 }
 
 // The layer at the horizon.
@@ -286,24 +505,43 @@ fn fill_last(hall: &[u8], width: usize, height: usize, goal: usize, base: usize,
 // ---- all layers
 
 // The layers before the horizon, step by step back to 0.
-fn fill_back(hall: &[u8], width: usize, height: usize, goal: usize, h: usize, layers: &mut [u8])
-    requires { ⌜ (width ≤ 16) × (height ≤ 16) × (h ≤ 63) × ((h + 1) * (width * height) ≤ length (now layers)) ⌝ }
+fn fill_back(
+    hall: &[u8],
+    floor: &[u8],
+    width: usize,
+    height: usize,
+    goal: usize,
+    h: usize,
+    layers: &mut [u8],
+)
+    requires { ⌜ (1 ≤ width) × (width ≤ 16) × (1 ≤ height) × (height ≤ 16) × (h ≤ 63) × ((h + 1) * (width * height) ≤ length (now layers)) ⌝ }
+    requires { ⌜ Floored (lentHall width height (now hall)) (now floor) ⌝ }
     ensures { λ _. ⌜ MadeFrom (lentHall width height (now (hall .entry))) goal h 0 (now (layers .entry)) (now (layers .exit)) ⌝ }
 {
     let mut t = h;
     while 0 < t {
         t -= 1;
-        fill_layer(hall, width, height, goal, t * (width * height), layers);
+        fill_layer(
+            hall,
+            floor,
+            width,
+            height,
+            goal,
+            t * (width * height),
+            layers,
+        );
     }
 }
 
 // From marks to levels.
 fn fill(hall: &[u8], width: usize, height: usize, goal: usize, h: usize, layers: &mut [u8])
-    requires { ⌜ (width ≤ 16) × (height ≤ 16) × (h ≤ 63) × ((h + 1) * (width * height) ≤ length (now layers)) ⌝ }
+    requires { ⌜ (1 ≤ width) × (width ≤ 16) × (1 ≤ height) × (height ≤ 16) × (h ≤ 63) × ((h + 1) * (width * height) ≤ length (now layers)) ⌝ }
     ensures { λ _. ⌜ Levelled (lentHall width height (now (hall .entry))) goal h (now (layers .entry)) (now (layers .exit)) ⌝ }
 {
+    let mut floor = [0; CELLS];
+    lay_floor(hall, width, height, &mut floor);
     fill_last(hall, width, height, goal, h * (width * height), layers);
-    fill_back(hall, width, height, goal, h, layers);
+    fill_back(hall, &floor, width, height, goal, h, layers);
 }
 
 // Document 01, rule 2: whether a carrier has a route under the bars that bind it at a node and one new bar, and its least cost. The layers

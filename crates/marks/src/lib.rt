@@ -64,7 +64,7 @@ fn mark_stay(
 const DIGITS: [u8; 5] = [1, 2, 4, 8, 16];
 
 // The digit of move m.
-fn digit_of(m: usize) -> u8
+pub fn digit_of(m: usize) -> u8
     requires { ⌜ m < 5 ⌝ }
     ensures { λ r. ⌜ r ≡ 2 ^ m ⌝ }
 {

@@ -1,51 +1,62 @@
--- `layers::fill_layer` meets its contract: from the row on the layer is made. Assumes nothing.
-use borrow.Author.Needs.{needs}
+-- `layers::fill_layer` meets its contract: the goal is filled apart. Assumes nothing.
 use native.Mathlib.Omega.{arith}
-use Prim.Native.Nat.{_+_, _-_, _*_, _≤_}
-use native.Mathlib.Nat.{mul-comm, zero-mul}
-use mathlib.Core.Path.{_≡_, sym, ap, _∙_}
-use Rattle.layers.specs.Fill.{lentHall, madeByte, Made}
-use Rattle.layers.proofs.MadeLaws.{made-none, made-all, rows-more, rows-inside, one-more}
+use Rattle.layers.specs.Fill.{lentHall}
+use Rattle.layers.proofs.CellLaws.{place-inside}
+use Rattle.layers.proofs.MadeLaws.{goal-filled, goal-nowhere}
+use Rattle.layers.proofs.NearLaws.{goal-place}
+use borrow.Author.Needs.{needs}
 use Rattle.layers.proofs.fill_layer.Statement.{statement}
 use Rattle.layers.proofs.fill_layer.Tie as tie
 
-abbrev Inv-loop : tie.InvT-loop
-Inv-loop hall width height goal base layers₀ row₀ layers row = (row ≤ height) × Made base (row * width) (width * height) (madeByte (lentHall width height hall) goal layers₀ (base + width * height)) layers₀ layers
+mul-if1 : tie.Need-mul-if1
+mul-if1 c = search needs
 
-abbrev μ-loop : tie.MeasureT-loop
-μ-loop hall width height goal base layers₀ row₀ layers row = row
+fill-rows-requires : tie.Need-fill-rows-requires
+fill-rows-requires c κs = search needs
 
-loop-holds : tie.Need-loop-holds Inv-loop μ-loop
-loop-holds c = (omega arith, made-none (c .before .before .args .base) (c .before .before .args .height * c .before .before .args .width) (c .before .before .args .width * c .before .before .args .height) (madeByte (lentHall (c .before .before .args .width) (c .before .before .args .height) (c .before .before .args .hall .now)) (c .before .before .args .goal) (c .before .before .args .layers .now) (c .before .before .args .base + c .before .before .args .width * c .before .before .args .height)) (c .before .before .args .layers .now) (omega (arith, mul-comm (c .before .before .args .width) (c .before .before .args .height))))
-
-sub-row : tie.Need-sub-row Inv-loop μ-loop
-sub-row c = omega arith
-
-fill-row-requires : tie.Need-fill-row-requires Inv-loop μ-loop
-fill-row-requires c κs = omega (arith, c .before .before .loop .inv .1 .long)
-
-loop-less : tie.Need-loop-less Inv-loop μ-loop
-loop-less c = omega arith
-
-loop-again : tie.Need-loop-again Inv-loop μ-loop
-loop-again c = let less : c .before .before .before .before .before .loop .row - 1 + 1 ≡ c .before .before .before .before .before .loop .row = omega arith in let inside = rows-inside (c .before .before .before .before .before .before .before .before .args .width) (c .before .before .before .before .before .before .before .before .args .height) (c .before .before .before .before .before .loop .row - 1) (omega arith) in (omega arith, rows-more (lentHall (c .before .before .before .before .before .before .before .before .args .width) (c .before .before .before .before .before .before .before .before .args .height) (c .before .before .before .before .before .before .before .before .args .hall .now)) (c .before .before .before .before .before .before .before .before .args .goal) (c .before .before .before .before .before .before .before .before .args .base) ((c .before .before .before .before .before .loop .row - 1) * c .before .before .before .before .before .before .before .before .args .width) ((c .before .before .before .before .before .loop .row - 1) * c .before .before .before .before .before .before .before .before .args .width + c .before .before .before .before .before .before .before .before .args .width) (c .before .before .before .before .before .before .before .before .args .width * c .before .before .before .before .before .before .before .before .args .height) (c .before .before .before .before .before .before .before .before .args .layers .now) (c .before .before .before .before .before .loop .layers) (c .before .before .fill-row .last .1 .1 .1 .1 .1 .1 .0) (omega arith) (made-all (c .before .before .before .before .before .before .before .before .args .base) (c .before .before .before .before .before .loop .row * c .before .before .before .before .before .before .before .before .args .width) ((c .before .before .before .before .before .loop .row - 1) * c .before .before .before .before .before .before .before .before .args .width + c .before .before .before .before .before .before .before .before .args .width) (c .before .before .before .before .before .before .before .before .args .width * c .before .before .before .before .before .before .before .before .args .height) (madeByte (lentHall (c .before .before .before .before .before .before .before .before .args .width) (c .before .before .before .before .before .before .before .before .args .height) (c .before .before .before .before .before .before .before .before .args .hall .now)) (c .before .before .before .before .before .before .before .before .args .goal) (c .before .before .before .before .before .before .before .before .args .layers .now) (c .before .before .before .before .before .before .before .before .args .base + c .before .before .before .before .before .before .before .before .args .width * c .before .before .before .before .before .before .before .before .args .height)) (c .before .before .before .before .before .before .before .before .args .layers .now) (c .before .before .before .before .before .loop .layers) (c .before .before .before .before .before .loop .inv .1) (ap (λ x. x * c .before .before .before .before .before .before .before .before .args .width) (sym less) ∙ one-more (c .before .before .before .before .before .loop .row - 1) (c .before .before .before .before .before .before .before .before .args .width))) (c .before .before .fill-row .ensures) (omega arith) (omega arith))
-
-same-length : tie.Need-same-length Inv-loop μ-loop
+same-length : tie.Need-same-length
 same-length c = search needs
 
-returns : tie.Need-returns Inv-loop μ-loop
-returns c = let e : c .before .loop .row ≡ 0 = omega arith in made-all (c .before .before .before .before .args .base) (c .before .loop .row * c .before .before .before .before .args .width) 0 (c .before .before .before .before .args .width * c .before .before .before .before .args .height) (madeByte (lentHall (c .before .before .before .before .args .width) (c .before .before .before .before .args .height) (c .before .before .before .before .args .hall .now)) (c .before .before .before .before .args .goal) (c .before .before .before .before .args .layers .now) (c .before .before .before .before .args .base + c .before .before .before .before .args .width * c .before .before .before .before .args .height)) (c .before .before .before .before .args .layers .now) (c .before .loop .layers) (c .before .loop .inv .1) (ap (λ x. x * c .before .before .before .before .args .width) e ∙ zero-mul (c .before .before .before .before .args .width))
+returns : tie.Need-returns
+returns c = goal-nowhere (lentHall (c .before .before .before .before .before .before .before .before .args .width) (c .before .before .before .before .before .before .before .before .args .height) (c .before .before .before .before .before .before .before .before .args .hall .now)) (c .before .before .before .before .before .before .before .before .args .goal) (c .before .before .before .before .before .before .before .before .args .base) (c .before .before .before .before .before .before .before .before .args .layers .now) (c .before .before .fill-rows .last .1 .1 .1 .1 .1 .0) (c .before .before .fill-rows .ensures) (c .before .before .before .before .if1 .taken)
+
+div-byte-of : tie.Need-div-byte-of
+div-byte-of c = search needs
+
+rem-byte-of : tie.Need-rem-byte-of
+rem-byte-of c = search needs
+
+byte-of-requires : tie.Need-byte-of-requires
+byte-of-requires c κs = let p = place-inside (c .before .before .before .before .before .args .width) (c .before .before .before .before .before .args .height) (c .before .before .before .before .before .args .goal) (omega arith) (c .before .if1 .left) in omega (arith, p .0, p .1)
+
+fill-rows-requires-2 : tie.Need-fill-rows-requires-2
+fill-rows-requires-2 c κs = search needs
+
+add-layers : tie.Need-add-layers
+add-layers c = search needs
+
+slice-write-layers : tie.Need-slice-write-layers
+slice-write-layers c = search needs
+
+same-length-2 : tie.Need-same-length-2
+same-length-2 c = search needs
+
+returns-2 : tie.Need-returns-2
+returns-2 c = goal-filled (lentHall (c .before .before .before .before .before .before .before .before .before .before .args .width) (c .before .before .before .before .before .before .before .before .before .before .args .height) (c .before .before .before .before .before .before .before .before .before .before .args .hall .now)) (c .before .before .before .before .before .before .before .before .before .before .args .goal) (c .before .before .before .before .before .before .before .before .before .before .args .base) (c .before .before .before .before .before .before .before .before .before .before .args .layers .now) (c .before .before .fill-rows2 .last .1 .1 .1 .1 .1 .0) (c .before .before .before .before .byte-of .result) (c .before .before .fill-rows2 .ensures) (c .before .before .before .before .before .before .if1 .left) (omega arith) (goal-place (c .before .before .before .before .before .before .before .before .before .before .args .width) (c .before .before .before .before .before .before .before .before .before .before .args .height) (c .before .before .before .before .before .before .before .before .before .before .args .hall .now) (c .before .before .before .before .before .before .before .before .before .before .args .goal) (c .before .before .before .before .before .before .before .before .before .before .args .base) (c .before .before .before .before .before .before .before .before .before .before .args .layers .now) (c .before .before .before .before .before .before .before .before .before .before .args .layers .now) (c .before .before .before .before .before .before .before .before .before .before .args .layers .now) (c .before .before .before .before .byte-of .result) (c .before .before .before .before .byte-of .ensures))
 
 pub fill-layer-spec : {M : Type 1} → statement M
 fill-layer-spec =
     tie.close
     (tie.spec
-    Inv-loop
-    μ-loop
-    loop-holds
-    sub-row
-    fill-row-requires
-    loop-less
-    loop-again
+    mul-if1
+    fill-rows-requires
     same-length
-    returns)
+    returns
+    div-byte-of
+    rem-byte-of
+    byte-of-requires
+    fill-rows-requires-2
+    add-layers
+    slice-write-layers
+    same-length-2
+    returns-2)

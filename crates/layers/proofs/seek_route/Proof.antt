@@ -1,7 +1,9 @@
 -- `layers::seek_route` meets its contract: marked layers are filled, and the level at the start tells the cost. Assumes nothing.
 use borrow.Author.Needs.{needs}
+use native.Mathlib.Omega.{arith}
 use Rattle.marks.specs.Marks.{boundBy}
 use Rattle.layers.specs.Fill.{lentHall}
+use Rattle.layers.proofs.NearLaws.{height-some}
 use Rattle.layers.proofs.SeekLaws.{sought-none, sought-cost}
 use Rattle.layers.proofs.seek_route.Statement.{statement}
 use Rattle.layers.proofs.seek_route.Tie as tie
@@ -10,7 +12,7 @@ mark-all-requires : tie.Need-mark-all-requires
 mark-all-requires c κs = search needs
 
 fill-requires : tie.Need-fill-requires
-fill-requires c κs = search needs
+fill-requires c κs = let some = height-some (c .before .before .before .before .before .before .before .before .args .width) (c .before .before .before .before .before .before .before .before .args .height) (c .before .before .before .before .before .before .before .before .args .start) (c .before .before .before .before .before .before .before .before .pre .0 .1) in let marked = c .before .before .before .mark-all .ensures .kept .long in let room = c .before .before .before .before .before .before .before .before .pre .0 .0 in omega (arith, room .some, room .wide, room .high, room .late, room .room)
 
 level-at-requires : tie.Need-level-at-requires
 level-at-requires c κs = search needs
