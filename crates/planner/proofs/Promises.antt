@@ -26,7 +26,7 @@ use Rattle.planner.specs.Promises.{Promised}
 abbrev Kept : Job → ℕ → Tables → Result → Type 0
 Kept job capacity ts r = Promised job capacity ts (r .answer) (r .tables)
 
-one-record : (capacity : ℕ) → wrongCapacity capacity ≡ false → 1 ≤ capacity
+pub one-record : (capacity : ℕ) → wrongCapacity capacity ≡ false → 1 ≤ capacity
 unfolding wrongCapacity
 one-record capacity e =
     let n : eqb capacity 0 ≡ false = is-false (λ t. of-false e (or-left (eqb capacity 0) (ltb 1024 capacity) t)) in
