@@ -16,7 +16,7 @@ use Rattle.layers.specs.Post.{SoughtRoute}
 use Rattle.layers.specs.declared.Sought.{Sought}
 use Rattle.layers.specs.declared.Sought.the-variants.{Nothing, Cost}
 use Rattle.layers.proofs.SeekLaws.{free-bar}
-use Rattle.route_bench.specs.Answer.{costTold, routeAt, Answered}
+use Rattle.route_bench.specs.Answer.{costTold, routeAt, Told, Answered}
 
 pub refused : (right : Type 0) (goal : ℕ) (route : Option (List ℕ)) (layers stretch : List ℕ) → (right → ⊥) → Answered right goal route layers layers stretch stretch 254
 refused right goal route layers stretch wrong =
@@ -41,7 +41,7 @@ cost-cost goal c (some r) e = cc
 
 -- ---- what is answered
 
-module _ (right : Type 0) (hall : List ℕ) (width height start goal h : ℕ) (columns : List ℕ) (capacity node carrier : ℕ) (holds : right) where
+module _ (hall : List ℕ) (width height start goal h : ℕ) (columns : List ℕ) (capacity node carrier : ℕ) where
   free-route : routeFrom (lentHall width height hall) (boundBy capacity columns node carrier Free) start goal h ≡ routeAt hall width height start goal h columns capacity node carrier
   unfolding boundBy routeAt
   free-route = free-bar (lentHall width height hall) (barsFor carrier (chainOf capacity columns node)) start goal h
@@ -49,23 +49,20 @@ module _ (right : Type 0) (hall : List ℕ) (width height start goal h : ℕ) (c
   tells : (layers filled : List ℕ) (answer : Sought) → SoughtRoute (lentHall width height hall) (boundBy capacity columns node carrier Free) start goal h layers filled answer → answer ≡ soughtOf goal (routeAt hall width height start goal h columns capacity node carrier)
   tells layers filled answer s = s .told ∙ ap (soughtOf goal) free-route
 
-  pub none-answered : (layers filled stretch : List ℕ) (answer : Sought) → SoughtRoute (lentHall width height hall) (boundBy capacity columns node carrier Free) start goal h layers filled answer → answer ≡ Nothing → Answered right goal (routeAt hall width height start goal h columns capacity node carrier) layers filled stretch stretch 255
+  pub none-answered : (layers filled stretch : List ℕ) (answer : Sought) → SoughtRoute (lentHall width height hall) (boundBy capacity columns node carrier Free) start goal h layers filled answer → answer ≡ Nothing → Told goal (routeAt hall width height start goal h columns capacity node carrier) stretch stretch 255
   none-answered layers filled stretch answer s e =
       let t = sym e ∙ tells layers filled answer s in
       record {
-        answers = λ r. record {
-          told = none-cost goal (routeAt hall width height start goal h columns capacity node carrier) t;
-          written = none-written goal (routeAt hall width height start goal h columns capacity node carrier) stretch t;
-        };
-        refuses = λ wrong. absurd (wrong holds);
+        told = none-cost goal (routeAt hall width height start goal h columns capacity node carrier) t;
+        written = none-written goal (routeAt hall width height start goal h columns capacity node carrier) stretch t;
       }
 
-  pub cost-answered : (layers filled stretch written : List ℕ) (answer : Sought) (c : ℕ) → SoughtRoute (lentHall width height hall) (boundBy capacity columns node carrier Free) start goal h layers filled answer → answer ≡ Cost c → written ≡ writtenRoute (routeFrom (lentHall width height hall) (boundBy capacity columns node carrier Free) start goal h) stretch → Answered right goal (routeAt hall width height start goal h columns capacity node carrier) layers filled stretch written c
+  pub cost-answered : (layers filled stretch written : List ℕ) (answer : Sought) (c : ℕ) → SoughtRoute (lentHall width height hall) (boundBy capacity columns node carrier Free) start goal h layers filled answer → answer ≡ Cost c → written ≡ writtenRoute (routeFrom (lentHall width height hall) (boundBy capacity columns node carrier Free) start goal h) stretch → Told goal (routeAt hall width height start goal h columns capacity node carrier) stretch written c
   cost-answered layers filled stretch written answer c s e w =
       record {
-        answers = λ r. record {
-          told = cost-cost goal c (routeAt hall width height start goal h columns capacity node carrier) (sym e ∙ tells layers filled answer s);
-          written = w ∙ ap (λ o. writtenRoute o stretch) free-route;
-        };
-        refuses = λ wrong. absurd (wrong holds);
+        told = cost-cost goal c (routeAt hall width height start goal h columns capacity node carrier) (sym e ∙ tells layers filled answer s);
+        written = w ∙ ap (λ o. writtenRoute o stretch) free-route;
       }
+
+pub answered : (right : Type 0) (goal : ℕ) (route : Option (List ℕ)) (layers filled stretch written : List ℕ) (answer : ℕ) → right → Told goal route stretch written answer → Answered right goal route layers filled stretch written answer
+answered right goal route layers filled stretch written answer holds told = record { answers = λ r. told; refuses = λ wrong. absurd (wrong holds) }

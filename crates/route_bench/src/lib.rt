@@ -4,7 +4,7 @@ use routes::Bar;
 ghost use Prim.Native.Nat.{_*_, _≤_, _<_};
 ghost use lib.ListN.{length};
 ghost use Rattle.records.specs.Columns.{Falls};
-ghost use Rattle.route_bench.specs.Answer.{Tells, RightFloor, RightRoom, RightArguments, routeAt, Answered};
+ghost use Rattle.route_bench.specs.Answer.{Tells, RightFloor, RightRoom, RightArguments, routeAt, Told, Answered};
 
 // The cost that stands for 'no route', and for arguments that are not right.
 const NO_ROUTE: usize = 255;
@@ -114,9 +114,8 @@ fn right_arguments(
 }
 
 // Document 01, rule 2: the cost of the best route under the bars that bind a carrier at a node, and the route in the stretch; 255 where
-// there is none, 254 where the arguments are not right.
-#[no_mangle]
-pub extern "C" fn adfulmise_best_route(
+// there is none.
+fn best_route(
     hall: &[u8],
     width: usize,
     height: usize,
@@ -130,23 +129,9 @@ pub extern "C" fn adfulmise_best_route(
     layers: &mut [u8],
     stretch: &mut [u8],
 ) -> usize
-    ensures { λ r. ⌜ Answered (RightArguments (now (hall .entry)) width height start goal h (now (columns .entry)) capacity node (now (layers .entry)) (now (stretch .entry))) goal (routeAt (now (hall .entry)) width height start goal h (now (columns .entry)) capacity node carrier) (now (layers .entry)) (now (layers .exit)) (now (stretch .entry)) (now (stretch .exit)) r ⌝ }
+    requires { ⌜ RightArguments (now hall) width height start goal h (now columns) capacity node (now layers) (now stretch) ⌝ }
+    ensures { λ r. ⌜ Told goal (routeAt (now (hall .entry)) width height start goal h (now (columns .entry)) capacity node carrier) (now (stretch .entry)) (now (stretch .exit)) r ⌝ }
 {
-    if !right_arguments(
-        hall,
-        width,
-        height,
-        start,
-        goal,
-        h,
-        columns,
-        capacity,
-        node,
-        layers,
-        stretch,
-    ) {
-        return REFUSED;
-    }
     let sought = layers::seek_route(
         hall,
         width,
@@ -182,4 +167,53 @@ pub extern "C" fn adfulmise_best_route(
             cost
         }
     }
+}
+
+// The same for any arguments: 254 where they are not right.
+#[no_mangle]
+pub extern "C" fn adfulmise_best_route(
+    hall: &[u8],
+    width: usize,
+    height: usize,
+    start: usize,
+    goal: usize,
+    h: usize,
+    columns: &[u16],
+    capacity: usize,
+    node: usize,
+    carrier: usize,
+    layers: &mut [u8],
+    stretch: &mut [u8],
+) -> usize
+    ensures { λ r. ⌜ Answered (RightArguments (now (hall .entry)) width height start goal h (now (columns .entry)) capacity node (now (layers .entry)) (now (stretch .entry))) goal (routeAt (now (hall .entry)) width height start goal h (now (columns .entry)) capacity node carrier) (now (layers .entry)) (now (layers .exit)) (now (stretch .entry)) (now (stretch .exit)) r ⌝ }
+{
+    if !right_arguments(
+        hall,
+        width,
+        height,
+        start,
+        goal,
+        h,
+        columns,
+        capacity,
+        node,
+        layers,
+        stretch,
+    ) {
+        return REFUSED;
+    }
+    best_route(
+        hall,
+        width,
+        height,
+        start,
+        goal,
+        h,
+        columns,
+        capacity,
+        node,
+        carrier,
+        layers,
+        stretch,
+    )
 }
