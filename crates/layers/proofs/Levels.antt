@@ -194,13 +194,15 @@ module _ (goal : ℕ) (f : ℕ → Option (List ℕ)) (short : (w : ℕ) → Sho
   best-first (w ∷ ws) s e = split w ws (f w) (bestOf goal (map f ws)) s refl (short-best goal 126 f short ws) e (best-first ws s)
 
 module _ (stand : ℕ → ℕ → Bool) (turn : ℕ → ℕ → List ℕ) (goal : ℕ) where
-  pub way-ends : (t v : ℕ) (r : List ℕ) → bestWay stand turn goal 0 t v ≡ some r → r ≡ v ∷ []
-  unfolding bestWay
-  way-ends t v r e = go (stand t v && eqb v goal) e
+  -- at the horizon no way costs anything
+  pub last-free : (t v : ℕ) (r : List ℕ) → bestWay stand turn goal 0 t v ≡ some r → cost goal r ≡ 0
+  unfolding bestWay cost stepCost
+  last-free t v r e = go (stand t v) (eqb v goal) refl e
     where
-      go : (b : Bool) → _≡_ {A = Option (List ℕ)} (elim b [ true ↦ some (v ∷ []) | false ↦ none ]) (some r) → r ≡ v ∷ []
-      go true e = cc
-      go false e = absurd (Option·some-ne-none r (sym e))
+      go : (a b : Bool) → eqb v goal ≡ b → _≡_ {A = Option (List ℕ)} (elim (a && b) [ true ↦ some (v ∷ []) | false ↦ none ]) (some r) → cost goal r ≡ 0
+      go true true q e = let k : v ∷ [] ≡ r = cc in ap (cost goal) (sym k) ∙ ap (λ b. stepCost b 0) q
+      go true false q e = absurd (Option·some-ne-none r (sym e))
+      go false b q e = absurd (Option·some-ne-none r (sym e))
 
   pub way-stands : (n t v : ℕ) (r : List ℕ) → bestWay stand turn goal (suc n) t v ≡ some r → stand t v ≡ true
   unfolding bestWay

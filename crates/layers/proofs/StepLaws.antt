@@ -1,94 +1,90 @@
 -- One step of the route, as the code takes it: the five moves are tried in order, and what is left of them has the same first cell.
 -- Assumes nothing.
-use Prim.Native.Nat.{ℕ, _+_, _-_, _%_, _≤_, _<_}
+use Prim.Native.Nat.{ℕ, _+_, _-_, _/_, _%_, _≤_, _<_}
+use native.Mathlib.Omega.{arith}
+use native.Mathlib.Numerals.{add-one}
 use mathlib.Core.Path.{_≡_, refl, sym, ap, _∙_}
-use mathlib.Core.Bool.{Bool, true, false, not}
+use mathlib.Core.Bool.{Bool, true, false}
 use mathlib.Core.List.{List, [], _++_}
 use lib.ListN.{getD}
 use borrow.Author.Tests.{eq-eqb, ne-eqb}
-use Rattle.lists.specs.Lists.{range, only, keep, anyOf, each}
-use Rattle.hall.specs.Moves.{landing, moveCount, reachFrom}
+use Rattle.lists.specs.Lists.{range, only, keep, each}
+use Rattle.hall.specs.Moves.{landing, moveCount}
 use Rattle.hall.specs.Landing.{landed}
 use Rattle.hall.specs.declared.Landing.{Landing}
 use Rattle.hall.specs.declared.Landing.the-variants.{Off, Cell}
 use Rattle.hall.proofs.Passing.{range-next, range-done}
-use Rattle.routes.specs.Bars.{barsFor, barsWay}
-use Rattle.routes.specs.declared.Bar.{Bar}
-use Rattle.records.specs.Columns.{chainOf}
-use Rattle.marks.specs.Marks.{boundBy}
-use Rattle.layers.specs.Fill.{levelIn}
-use Rattle.layers.specs.Write.{mayGo, goesTo, goneTo}
+use Rattle.layers.specs.Fill.{levelIn, halves, odd, unless, turnsBy}
+use Rattle.layers.specs.Write.{hasLevel, goneTo}
 use Rattle.layers.proofs.Turns.{keep-append}
-
--- ---- one way
-
-module _ (starts : Bool) (capacity : ℕ) (columns : List ℕ) (node carrier : ℕ) (bar : Bar) (t v w : ℕ) where
-  pub go-unasked : starts ≡ false → true ≡ mayGo starts (boundBy capacity columns node carrier bar) t v w
-  unfolding mayGo
-  go-unasked e = rw e
-
-  pub go-barred : starts ≡ true → barsWay t v w bar ≡ true → false ≡ mayGo starts (boundBy capacity columns node carrier bar) t v w
-  unfolding mayGo boundBy anyOf
-  go-barred e k = rw (e, mayGo, boundBy, anyOf, k)
-
-  -- by the records
-  pub go-asked : (r : Bool) → starts ≡ true → barsWay t v w bar ≡ false → r ≡ anyOf (barsWay t v w) (barsFor carrier (chainOf capacity columns node)) → not r ≡ mayGo starts (boundBy capacity columns node carrier bar) t v w
-  unfolding mayGo boundBy anyOf
-  go-asked r e k q = rw (e, q, mayGo, boundBy, anyOf, k)
 
 -- ---- one move
 
-module _ (layers : List ℕ) (next target : ℕ) (starts : Bool) (bars : List Bar) (t v : ℕ) where
-  pub goes-off : (l : Landing) (ws : List ℕ) → l ≡ Off → landed l ≡ ws → landed Off ≡ keep (goesTo layers next target starts bars t v) ws
+module _ (layers : List ℕ) (next target rest : ℕ) where
+  -- what the move leaves of the cells it leads to
+  abbrev left : List ℕ → List ℕ
+  left ws = keep (hasLevel layers next target) (unless (odd rest) ws)
+
+  pub goes-barred : (ws : List ℕ) → rest % 2 ≡ 1 → landed Off ≡ left ws
+  unfolding landed odd unless keep
+  goes-barred ws e = rw e
+
+  unbarred : (ws : List ℕ) → (rest % 2 ≡ 1 → ⊥) → unless (odd rest) ws ≡ ws
+  unfolding odd unless
+  unbarred ws n = rw (ne-eqb (rest % 2) 1 n)
+
+  pub goes-off : (l : Landing) (ws : List ℕ) → (rest % 2 ≡ 1 → ⊥) → l ≡ Off → landed l ≡ ws → landed Off ≡ left ws
   unfolding landed keep
-  goes-off l ws e q = ap (keep (goesTo layers next target starts bars t v)) (ap landed (sym e) ∙ q)
+  goes-off l ws n e q = ap (keep (hasLevel layers next target)) (ap landed (sym e) ∙ q ∙ sym (unbarred ws n))
 
-  kept : (b : Bool) (w : ℕ) (l : Landing) (ws : List ℕ) → l ≡ Cell w → landed l ≡ ws → goesTo layers next target starts bars t v w ≡ b → only b w ++ [] ≡ keep (goesTo layers next target starts bars t v) ws
+  goes : (b : Bool) (w : ℕ) (l : Landing) (ws : List ℕ) → (rest % 2 ≡ 1 → ⊥) → l ≡ Cell w → landed l ≡ ws → hasLevel layers next target w ≡ b → only b w ++ [] ≡ left ws
   unfolding landed keep
-  kept b w l ws e q k = ap (λ x. only x w ++ []) (sym k) ∙ ap (keep (goesTo layers next target starts bars t v)) (ap landed (sym e) ∙ q)
+  goes b w l ws n e q k = ap (λ x. only x w ++ []) (sym k) ∙ ap (keep (hasLevel layers next target)) (ap landed (sym e) ∙ q ∙ sym (unbarred ws n))
 
-  pub goes-elsewhere : (r w : ℕ) (l : Landing) (ws : List ℕ) → l ≡ Cell w → landed l ≡ ws → r ≡ getD layers (next + w) 0 % 128 → (r ≡ target → ⊥) → landed Off ≡ keep (goesTo layers next target starts bars t v) ws
-  unfolding landed only goesTo levelIn
-  goes-elsewhere r w l ws e q k n = kept false w l ws e q (rw (ne-eqb (getD layers (next + w) 0 % 128) target (λ z. n (k ∙ z))))
+  pub goes-there : (r w : ℕ) (l : Landing) (ws : List ℕ) → (rest % 2 ≡ 1 → ⊥) → l ≡ Cell w → landed l ≡ ws → r ≡ getD layers (next + w) 0 % 128 → r ≡ target → landed (Cell w) ≡ left ws
+  unfolding landed only hasLevel levelIn
+  goes-there r w l ws n e q k y = goes true w l ws n e q (eq-eqb (getD layers (next + w) 0 % 128) target (sym k ∙ y))
 
-  pub goes-there : (b : Bool) (r w : ℕ) (l : Landing) (ws : List ℕ) → l ≡ Cell w → landed l ≡ ws → r ≡ getD layers (next + w) 0 % 128 → r ≡ target → b ≡ mayGo starts bars t v w → only b w ≡ keep (goesTo layers next target starts bars t v) ws
-  unfolding goesTo levelIn only
-  goes-there true r w l ws e q k n g = kept true w l ws e q (rw (eq-eqb (getD layers (next + w) 0 % 128) target (sym k ∙ n)) (sym g))
-  goes-there false r w l ws e q k n g = kept false w l ws e q (rw (eq-eqb (getD layers (next + w) 0 % 128) target (sym k ∙ n)) (sym g))
-
-  pub goes-on : (b : Bool) (r w : ℕ) (l : Landing) (ws : List ℕ) → l ≡ Cell w → landed l ≡ ws → r ≡ getD layers (next + w) 0 % 128 → r ≡ target → b ≡ mayGo starts bars t v w → b ≡ true → landed (Cell w) ≡ keep (goesTo layers next target starts bars t v) ws
-  unfolding landed only
-  goes-on b r w l ws e q k n g y = ap (λ x. only x w) (sym y) ∙ goes-there b r w l ws e q k n g
-
-  pub goes-not : (b : Bool) (r w : ℕ) (l : Landing) (ws : List ℕ) → l ≡ Cell w → landed l ≡ ws → r ≡ getD layers (next + w) 0 % 128 → r ≡ target → b ≡ mayGo starts bars t v w → b ≡ false → landed Off ≡ keep (goesTo layers next target starts bars t v) ws
-  unfolding landed only
-  goes-not b r w l ws e q k n g y = ap (λ x. only x w) (sym y) ∙ goes-there b r w l ws e q k n g
+  pub goes-elsewhere : (r w : ℕ) (l : Landing) (ws : List ℕ) → (rest % 2 ≡ 1 → ⊥) → l ≡ Cell w → landed l ≡ ws → r ≡ getD layers (next + w) 0 % 128 → (r ≡ target → ⊥) → landed Off ≡ left ws
+  unfolding landed only hasLevel levelIn
+  goes-elsewhere r w l ws n e q k y = goes false w l ws n e q (ne-eqb (getD layers (next + w) 0 % 128) target (λ z. y (k ∙ z)))
 
 -- ---- all moves, in order
 
--- what the moves from m on lead to
-abbrev pub later : ℕ → ℕ → ℕ → ℕ → ℕ → List ℕ
-later width height row col m = each (landing width height row col) (range m (moveCount - m))
+-- what the moves from m on lead to, where their digits are not set
+abbrev pub later : ℕ → ℕ → ℕ → ℕ → ℕ → ℕ → List ℕ
+later width height row col mark m = each (λ k. unless (odd (halves k mark)) (landing width height row col k)) (range m (moveCount - m))
 
-module _ (layers : List ℕ) (next target : ℕ) (starts : Bool) (bars : List Bar) (t v width height row col : ℕ) where
-  pub moves-begin : goneTo layers next target starts bars t v (reachFrom width height row col) ≡ goneTo layers next target starts bars t v (later width height row col 0)
-  unfolding reachFrom
-  moves-begin = refl
+-- none of the first m moves was taken, and their digits are passed
+pub record Passed (layers : List ℕ) (next target v width height row col mark : ℕ) (rest m : ℕ) : Type 0 where
+  pub within : m ≤ moveCount
+  pub digits : rest ≡ halves m mark
+  pub same : goneTo layers next target v (turnsBy width height row col mark) ≡ goneTo layers next target v (later width height row col mark m)
 
-  later-next : (m : ℕ) → m < moveCount → later width height row col m ≡ landing width height row col m ++ later width height row col (m + 1)
+module _ (layers : List ℕ) (next target v width height row col mark : ℕ) where
+  pub moves-begin : Passed layers next target v width height row col mark mark 0
+  unfolding halves turnsBy
+  moves-begin = record { within = omega arith; digits = refl; same = refl }
+
+  later-next : (rest m : ℕ) → m < moveCount → rest ≡ halves m mark → later width height row col mark m ≡ unless (odd rest) (landing width height row col m) ++ later width height row col mark (m + 1)
   unfolding each
-  later-next m h = ap (each (landing width height row col)) (range-next m moveCount h)
+  later-next rest m h d = rw (d, range-next m moveCount h)
 
-  pub move-found : (m w : ℕ) (l : Landing) → m < moveCount → l ≡ Cell w → landed l ≡ keep (goesTo layers next target starts bars t v) (landing width height row col m) → w ≡ goneTo layers next target starts bars t v (later width height row col m)
-  unfolding goneTo landed
-  move-found m w l h e q =
-      rw (later-next m h, keep-append (goesTo layers next target starts bars t v) (landing width height row col m) (later width height row col (m + 1)), ← q, e)
+  module _ (rest m : ℕ) (p : Passed layers next target v width height row col mark rest m) where
+    pub move-found : (w : ℕ) (l : Landing) → m < moveCount → l ≡ Cell w → landed l ≡ keep (hasLevel layers next target) (unless (odd rest) (landing width height row col m)) → w ≡ goneTo layers next target v (turnsBy width height row col mark)
+    unfolding goneTo landed
+    move-found w l h e q =
+        rw (p .same, later-next rest m h (p .digits), keep-append (hasLevel layers next target) (unless (odd rest) (landing width height row col m)) (later width height row col mark (m + 1)), ← q, e)
 
-  pub move-passed : (m : ℕ) (l : Landing) → m < moveCount → l ≡ Off → landed l ≡ keep (goesTo layers next target starts bars t v) (landing width height row col m) → goneTo layers next target starts bars t v (later width height row col m) ≡ goneTo layers next target starts bars t v (later width height row col (m + 1))
-  unfolding goneTo landed
-  move-passed m l h e q =
-      rw (later-next m h, keep-append (goesTo layers next target starts bars t v) (landing width height row col m) (later width height row col (m + 1)), ← q, e)
+    pub move-passed : (l : Landing) → m < moveCount → l ≡ Off → landed l ≡ keep (hasLevel layers next target) (unless (odd rest) (landing width height row col m)) → Passed layers next target v width height row col mark (rest / 2) (m + 1)
+    unfolding goneTo landed halves
+    move-passed l h e q =
+        record {
+          within = omega arith;
+          digits = rw add-one (ap (λ x. x / 2) (p .digits));
+          same = rw (p .same, later-next rest m h (p .digits), keep-append (hasLevel layers next target) (unless (odd rest) (landing width height row col m)) (later width height row col mark (m + 1)), ← q, e);
+        }
 
-  pub moves-end : (m : ℕ) → moveCount ≤ m → v ≡ goneTo layers next target starts bars t v (later width height row col m)
-  unfolding goneTo each keep
-  moves-end m h = rw (range-done m moveCount h)
+    pub moves-end : moveCount ≤ m → v ≡ goneTo layers next target v (turnsBy width height row col mark)
+    unfolding goneTo each keep
+    moves-end h = rw (p .same, range-done m moveCount h)

@@ -77,15 +77,6 @@ digit-read b (suc (suc (suc zero))) h = let s = small-digits b in let e : marked
 digit-read b (suc (suc (suc (suc zero)))) h = let s = small-digits b in let e : marked b / 2 / 2 / 2 / 2 % 2 ≡ one (b 4) = omega (arith, marked-sum b) in rw e (one-test (b 4))
 digit-read b (suc (suc (suc (suc (suc m))))) h = absurd (omega arith)
 
--- no digit is set in 0
-pub zero-unset : (m : ℕ) → odd (halves m 0) ≡ false
-unfolding odd halves
-zero-unset m = rw (zero-halves m)
-  where
-    zero-halves : (m : ℕ) → halves m 0 ≡ 0
-    zero-halves zero = refl
-    zero-halves (suc m) = rw (zero-halves m)
-
 -- ---- where a carrier may stand
 
 pub mark-bars : (width height : ℕ) (bars : List Bar) (t v : ℕ) → eqb (markOf width height bars t v) 255 ≡ anyOf (barsCell t v) bars
@@ -95,6 +86,14 @@ mark-bars width height bars t v = go (anyOf (barsCell t v) bars)
     go : (b : Bool) → eqb (elim b [ true ↦ 255 | false ↦ marked (barsMove width height bars t v) ]) 255 ≡ b
     go true = refl
     go false = ne-eqb (marked (barsMove width height bars t v)) 255 (λ e. let l = marked-small (barsMove width height bars t v) in absurd (omega arith))
+
+pub mark-small : (width height : ℕ) (bars : List Bar) (t v : ℕ) → markOf width height bars t v ≤ 255
+unfolding markOf
+mark-small width height bars t v = go (anyOf (barsCell t v) bars)
+  where
+    go : (b : Bool) → elim b [ true ↦ 255 | false ↦ marked (barsMove width height bars t v) ] ≤ 255
+    go true = omega arith
+    go false = omega (arith, marked-small (barsMove width height bars t v))
 
 pub mark-begins : (hall : Hall) (bars : List Bar) (t v : ℕ) → mayBegin hall v (markOf (hall .width) (hall .height) bars t v) ≡ mayStand hall bars t v
 unfolding mayBegin mayStand

@@ -6,18 +6,18 @@ use routes::Bar;
 ghost use Prim.Native.Nat.{_+_, _-_, _*_, _/_, _%_, min, _≤_, _<_};
 ghost use mathlib.Core.Bool.{false, _||_};
 ghost use mathlib.Core.Path.{_≡_};
-ghost use mathlib.Core.List.{map};
-ghost use lib.Dec.{eqb, leb};
-ghost use lib.ListN.{length, getD, set};
+ghost use mathlib.Core.List.{map, _++_};
+ghost use lib.Dec.{eqb};
+ghost use lib.ListN.{length, getD, take, set, replicate};
 ghost use Rattle.lists.specs.Lists.{keep};
-ghost use Rattle.hall.specs.Moves.{landing, moveCount, reachFrom};
+ghost use Rattle.hall.specs.Moves.{landing, moveCount};
 ghost use Rattle.hall.specs.Landing.{landed};
 ghost use Rattle.records.specs.Columns.{Falls};
 ghost use Rattle.marks.specs.Marks.{boundBy, digit};
 ghost use Rattle.marks.specs.Post.{Layered};
-ghost use Rattle.layers.specs.Layers.{crossingStarts, routeFrom, writtenRoute, Filled};
+ghost use Rattle.layers.specs.Layers.{crossingStarts, wayFrom, routeFrom, writtenRoute, Filled};
 ghost use Rattle.layers.specs.Post.{SoughtRoute};
-ghost use Rattle.layers.specs.Write.{mayGo, goesTo, goneTo};
+ghost use Rattle.layers.specs.Write.{hasLevel, goneTo, writtenFrom};
 ghost use Rattle.layers.specs.Fill.{lentHall, levelIn, leastOf, leastTo, odd, unless, turnsBy, afterStep, orNone, leaves, edgeMark, floorMark, nearEntry, nearLevel, nearByte, madeLevel, lastLevel, madeByte, lastByte, Floored, Made, MadeFrom, Levelled};
 
 // The level of a cell from which there is no way to the goal.
@@ -585,80 +585,30 @@ pub fn seek_route(
 
 // ---- the route, read off the layers
 
-// May the carrier go from v to w between t and t + 1? The records are asked only where a barred crossing starts.
-fn may_go(
-    columns: &[u16],
-    capacity: usize,
-    node: usize,
-    carrier: usize,
-    bar: Bar,
-    starts: bool,
-    t: usize,
-    v: usize,
-    w: usize,
-) -> bool
-    requires { ⌜ Falls capacity (now columns) node ⌝ }
-    ensures { λ r. ⌜ r ≡ mayGo starts (boundBy capacity (now (columns .entry)) node carrier bar) t v w ⌝ }
-{
-    if !starts {
-        return true;
-    }
-    if records::bars_way(bar, t, v, w) {
-        return false;
-    }
-    if records::crossing_binds(columns, capacity, node, carrier, t, v, w) {
-        return false;
-    }
-    true
-}
-
-// A step to be taken: from `cell`, which has this row and column, at `step`; to a cell of the level `target` in the layer that starts at
-// `next`; and whether a barred crossing starts at `cell`.
-struct Turn {
-    step: usize,
-    cell: usize,
-    row: usize,
-    col: usize,
-    next: usize,
-    target: usize,
-    starts: bool,
-}
-
-// The cell that move m leads to, if it has the level wanted and no bar forbids the way.
+// The cell that move m leads to, if it has the level wanted in the layer that starts at `next`, and the digit of the move, the last of
+// `rest`, is not set: no bar forbids it.
 fn goes_by(
     layers: &[u8],
     width: usize,
     height: usize,
-    columns: &[u16],
-    capacity: usize,
-    node: usize,
-    carrier: usize,
-    bar: Bar,
-    turn: Turn,
+    next: usize,
+    target: usize,
+    row: usize,
+    col: usize,
     m: usize,
+    rest: usize,
 ) -> Landing
-    requires { ⌜ (width ≤ 16) × (height ≤ 16) × (turn .row < height) × (turn .col < width) × (m < 5) × (turn .next + width * height ≤ length (now layers)) ⌝ }
-    requires { ⌜ Falls capacity (now columns) node ⌝ }
-    ensures { λ r. ⌜ landed r ≡ keep (goesTo (now (layers .entry)) (turn .next) (turn .target) (turn .starts) (boundBy capacity (now (columns .entry)) node carrier bar) (turn .step) (turn .cell)) (landing width height (turn .row) (turn .col) m) ⌝ }
+    requires { ⌜ (width ≤ 16) × (height ≤ 16) × (row < height) × (col < width) × (m < 5) × (next + width * height ≤ length (now layers)) ⌝ }
+    ensures { λ r. ⌜ landed r ≡ keep (hasLevel (now (layers .entry)) next target) (unless (odd rest) (landing width height row col m)) ⌝ }
 {
-    let l = hall::landing_at(width, height, turn.row, turn.col, m);
+    if rest % 2 == 1 {
+        return Landing::Off;
+    }
+    let l = hall::landing_at(width, height, row, col, m);
     match l {
         Landing::Off => Landing::Off,
         Landing::Cell(w) => {
-            if level_at(layers, turn.next + w) != turn.target {
-                return Landing::Off;
-            }
-            if may_go(
-                columns,
-                capacity,
-                node,
-                carrier,
-                bar,
-                turn.starts,
-                turn.step,
-                turn.cell,
-                w,
-            ) {
+            if level_at(layers, next + w) == target {
                 return Landing::Cell(w);
             }
             Landing::Off
@@ -666,92 +616,94 @@ fn goes_by(
     }
 }
 
-// The first such cell in the order of moves, which is that of cells; the cell itself where there is none.
-fn next_cell(
-    layers: &[u8],
-    width: usize,
-    height: usize,
-    columns: &[u16],
-    capacity: usize,
-    node: usize,
-    carrier: usize,
-    bar: Bar,
-    turn: Turn,
-) -> usize
-    requires { ⌜ (width ≤ 16) × (height ≤ 16) × (turn .row < height) × (turn .col < width) × (turn .next + width * height ≤ length (now layers)) ⌝ }
-    requires { ⌜ Falls capacity (now columns) node ⌝ }
-    ensures { λ r. ⌜ r ≡ goneTo (now (layers .entry)) (turn .next) (turn .target) (turn .starts) (boundBy capacity (now (columns .entry)) node carrier bar) (turn .step) (turn .cell) (reachFrom width height (turn .row) (turn .col)) ⌝ }
+// The cell at t + 1 of the best way on from v at t, where this is the mark: the first of the level wanted, in the order of moves, which
+// is that of cells; the cell itself where there is none.
+fn step_on(layers: &[u8], width: usize, height: usize, t: usize, v: usize, mark: usize) -> usize
+    requires { ⌜ (1 ≤ width) × (width ≤ 16) × (height ≤ 16) × (v < width * height) × (t < 63) × ((t + 1) * (width * height) + width * height ≤ length (now layers)) ⌝ }
+    requires { ⌜ 1 ≤ getD (now layers) (t * (width * height) + v) 0 % 128 ⌝ }
+    ensures { λ r. ⌜ r ≡ goneTo (now (layers .entry)) ((t + 1) * (width * height)) (getD (now (layers .entry)) (t * (width * height) + v) 0 % 128 - 1) v (turnsBy width height (v / width) (v % width) mark) ⌝ }
 {
+    let size = width * height;
+    let next = (t + 1) * size;
+    let target = level_at(layers, t * size + v) - 1;
+    let row = v / width;
+    let col = v % width;
+    let mut rest = mark;
     let mut m = 0;
     while m < MOVE_COUNT {
-        let l = goes_by(
-            layers,
-            width,
-            height,
-            columns,
-            capacity,
-            node,
-            carrier,
-            bar,
-            turn,
-            m,
-        );
+        let l = goes_by(layers, width, height, next, target, row, col, m, rest);
         match l {
             Landing::Cell(w) => {
                 return w;
             }
             Landing::Off => {}
         }
+        rest = rest / 2;
         m += 1;
     }
-    turn.cell
+    v
 }
 
-fn one_less(n: usize) -> usize
-    ensures { λ r. ⌜ r ≡ n - 1 ⌝ }
+// Stays on v from step t on.
+fn stay_on(t: usize, v: usize, stretch: &mut [u8])
+    requires { ⌜ (t ≤ length (now stretch)) × (v < 256) ⌝ }
+    ensures { λ _. ⌜ now (stretch .exit) ≡ take t (now (stretch .entry)) ++ replicate (length (now (stretch .entry)) - t) v ⌝ }
 {
-    if n == 0 { 0 } else { n - 1 }
+    let mut s = t;
+    while s < stretch.len() {
+        stretch[s] = v as u8;
+        s += 1;
+    }
 }
 
-// The cell at t + 1 of the best way on from v at t.
-fn step_on(
-    layers: &[u8],
+// A byte for each of 64 steps and 256 cells.
+const MOST_BYTES: usize = 16384;
+
+// The best way on from `cell` at `step`, where barred crossings start on the way. The bars are marked once more, since the levels were
+// filled over their marks.
+fn write_barred(
+    hall: &[u8],
     width: usize,
     height: usize,
+    goal: usize,
+    h: usize,
     columns: &[u16],
     capacity: usize,
     node: usize,
     carrier: usize,
     bar: Bar,
-    t: usize,
-    v: usize,
-) -> usize
-    requires { ⌜ (1 ≤ width) × (width ≤ 16) × (height ≤ 16) × (v < width * height) × (t < 63) × ((t + 1) * (width * height) + width * height ≤ length (now layers)) ⌝ }
+    layers: &[u8],
+    step: usize,
+    cell: usize,
+    stretch: &mut [u8],
+)
+    requires { ⌜ Layered width height h (now layers) × (cell < width * height) × (step ≤ h) × (length (now stretch) ≡ h + 1) ⌝ }
     requires { ⌜ Falls capacity (now columns) node ⌝ }
-    ensures { λ r. ⌜ r ≡ goneTo (now (layers .entry)) ((t + 1) * (width * height)) (getD (now (layers .entry)) (t * (width * height) + v) 0 % 128 - 1) (leb 128 (getD (now (layers .entry)) (t * (width * height) + v) 0)) (boundBy capacity (now (columns .entry)) node carrier bar) t v (reachFrom width height (v / width) (v % width)) ⌝ }
+    requires { ⌜ Filled (lentHall width height (now hall)) (boundBy capacity (now columns) node carrier bar) goal h (now layers) ⌝ }
+    requires { ⌜ getD (now layers) (step * (width * height) + cell) 0 % 128 < 127 ⌝ }
+    ensures { λ _. ⌜ now (stretch .exit) ≡ writtenFrom step (wayFrom (lentHall width height (now (hall .entry))) (boundBy capacity (now (columns .entry)) node carrier bar) goal h step cell) (now (stretch .entry)) ⌝ }
 {
-    let size = width * height;
-    let byte = layers[t * size + v] as usize;
-    let turn = Turn {
-        step: t,
-        cell: v,
-        row: v / width,
-        col: v % width,
-        next: (t + 1) * size,
-        target: one_less(byte % 128),
-        starts: CROSSING <= byte,
-    };
-    next_cell(
-        layers,
+    let mut ways = [0u8; MOST_BYTES];
+    marks::mark_all(
+        &mut ways,
         width,
         height,
+        h,
         columns,
         capacity,
         node,
         carrier,
         bar,
-        turn,
-    )
+    );
+    let size = width * height;
+    let mut v = cell;
+    let mut t = step;
+    while level_at(layers, t * size + v) != 0 {
+        stretch[t] = v as u8;
+        v = step_on(layers, width, height, t, v, ways[t * size + v] as usize);
+        t += 1;
+    }
+    stay_on(t, v, stretch);
 }
 
 // Document 01, rule 2: the best route of a carrier under its bars, from layers that hold its levels, into a stretch of h + 1 bytes. Where
@@ -779,23 +731,32 @@ pub fn write_route(
     if level_at(layers, start) == NO_WAY {
         return;
     }
+    let size = width * height;
     let mut v = start;
     let mut t = 0;
-    while t < h {
+    while level_at(layers, t * size + v) != 0 {
+        if CROSSING <= layers[t * size + v] as usize {
+            write_barred(
+                hall,
+                width,
+                height,
+                goal,
+                h,
+                columns,
+                capacity,
+                node,
+                carrier,
+                bar,
+                layers,
+                t,
+                v,
+                stretch,
+            );
+            return;
+        }
         stretch[t] = v as u8;
-        v = step_on(
-            layers,
-            width,
-            height,
-            columns,
-            capacity,
-            node,
-            carrier,
-            bar,
-            t,
-            v,
-        );
+        v = step_on(layers, width, height, t, v, 0);
         t += 1;
     }
-    stretch[h] = v as u8;
+    stay_on(t, v, stretch);
 }
