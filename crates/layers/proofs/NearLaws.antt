@@ -1,13 +1,12 @@
--- The rows between the first and the last, as the code fills them: the entries of the next layer are read by the table of moves, and the digits of
--- the mark and of the floor say which of them count. There a byte so made is the definition's, with the goal nowhere.
+-- A layer as the code fills it by spans: the entries of the next layer are read by the table of moves, and the digits of the mark and of
+-- the floor say which of them count. A byte so made is the definition's, with the goal nowhere; then the goal's own is mended.
 -- Assumes nothing.
 use Prim.Native.Nat.{ℕ, zero, suc, _+_, _-_, _*_, _/_, _%_, _^_, min, _≤_, _<_}
-use native.Mathlib.Nat.{add-mul, suc-mul, mul-comm, div-add-mod', mod-lt}
+use native.Mathlib.Nat.{add-mul, suc-mul, mul-comm, div-add-mod'}
 use native.Mathlib.Omega.{arith}
 use native.Mathlib.Numerals.{add-one}
-use native.Mathlib.Decide.{ℕ-discrete, decLt}
+use native.Mathlib.Decide.{ℕ-discrete}
 use mathlib.Core.Path.{_≡_, refl, sym, ap, subst, _∙_}
-use mathlib.Core.Logic.{_⊎_, inl, inr}
 use mathlib.Core.Bool.{Bool, true, false, not, _&&_, _||_}
 use mathlib.Core.List.{List, [], _∷_, map}
 use lib.Dec.{eqb, ltb, leb, leb→le}
@@ -23,10 +22,11 @@ use Rattle.hall.specs.declared.Landing.{Landing}
 use Rattle.hall.specs.declared.Landing.the-variants.{Off, Cell}
 use Rattle.marks.specs.Marks.{digit}
 use Rattle.layers.specs.Layers.{crossingStarts}
-use Rattle.layers.specs.Fill.{lentHall, levelIn, leastOf, halves, odd, unless, turnsBy, afterStep, mayBegin, madeLevel, madeByte, leaves, edgeMark, floorMark, Floored, leastTo, nearEntry, orNone, nearLevel, nearByte, Made}
+use Rattle.layers.specs.Fill.{lentHall, levelIn, leastOf, halves, odd, unless, turnsBy, afterStep, mayBegin, madeLevel, madeByte, leaves, edgeMark, floorMark, Floored, leastTo, nearEntry, orNone, nearLevel, nearByte, restedByte, Made}
 use Rattle.layers.proofs.Turns.{digit-read}
-use Rattle.layers.proofs.MadeLaws.{made-none, made-up, byte-same, rows-more, rows-inside}
-use Rattle.layers.proofs.CellLaws.{leastTo-most, spared, least-all, step-arrives, step-more, step-small, crossing-small}
+use Rattle.layers.proofs.Filled.{read-level}
+use Rattle.layers.proofs.MadeLaws.{made-up, byte-same, rows-more, one-more, rows-inside}
+use Rattle.layers.proofs.CellLaws.{least-most, leastTo-most, spared, least-all, step-none, step-stays, step-arrives, step-more, step-small, crossing-small}
 
 -- ---- one move
 
@@ -100,9 +100,9 @@ module _ (layers : List ℕ) (width under mark floor : ℕ) where
 
 -- ---- the byte
 
-one-more : (least : ℕ) → (least ≡ 127 → ⊥) → least + 1 ≡ afterStep false least
-one-more zero o = step-arrives false 0 refl refl
-one-more (suc c) o = step-more false (suc c) o (λ e. absurd (omega arith))
+one-step : (least : ℕ) → (least ≡ 127 → ⊥) → least + 1 ≡ afterStep false least
+one-step zero o = step-arrives false 0 refl refl
+one-step (suc c) o = step-more false (suc c) o (λ e. absurd (omega arith))
 
 module _ (mark floor least : ℕ) where
   pub on-barred : mark ≡ 255 → 127 ≡ orNone (eqb mark 255 || eqb floor 255) (afterStep false least)
@@ -122,7 +122,7 @@ module _ (mark floor least : ℕ) where
 
   pub on-more : (mark ≡ 255 → ⊥) → (floor ≡ 255 → ⊥) → (least ≡ 127 → ⊥) → least + 1 ≡ orNone (eqb mark 255 || eqb floor 255) (afterStep false least)
   unfolding orNone
-  on-more n k o = rw (ne-eqb mark 255 n, ne-eqb floor 255 k) (one-more least o)
+  on-more n k o = rw (ne-eqb mark 255 n, ne-eqb floor 255 k) (one-step least o)
 
 or-none-small : (b : Bool) (l : ℕ) → l ≤ 127 → orNone b l ≤ 127
 unfolding orNone
@@ -240,25 +240,23 @@ floor-closed hall v e = rw (e, floorMark)
 
 -- ---- the byte so made is the definition's
 
-entry-cell : (width next row col d e : ℕ) → 1 ≤ row → 1 ≤ col + e → next + (row * width + col) + width * d + e - (width + 1) ≡ next + ((row + d - 1) * width + (col + e - 1))
-entry-cell width next zero col d e h k = absurd (omega arith)
-entry-cell width next (suc row) col d e h k =
-    let less : suc row + d - 1 ≡ row + d = omega arith in
-    rw (less, add-mul row d width, suc-mul row width, mul-comm d width) (omega arith)
-
-col-some : (width height r c : ℕ) → onGrid width height r c ≡ true → 1 ≤ c
-unfolding onGrid
-col-some width height r c e =
-    let rows = and-both (ltb 0 r && leb r height) (ltb 0 c && leb c width) (of-true e) in
-    let col = and-both (ltb 0 c) (leb c width) (rows .1) in
-    leb→le 1 c (col .0)
-
-row-some : (width v : ℕ) → 1 ≤ width → width ≤ v → 1 ≤ v / width
-row-some width v h k = go (v / width) (div-add-mod' v width)
+entry-cell : (width next row col d e : ℕ) → 1 ≤ row + d → 1 ≤ col + e → next + (row * width + col) + width * d + e - (width + 1) ≡ next + ((row + d - 1) * width + (col + e - 1))
+entry-cell width next row col d e h k =
+    let whole : row * width + width * d ≡ (row + d - 1) * width + width = ap (λ x. row * width + x) (mul-comm width d) ∙ sym (add-mul row d width) ∙ one-back (row + d) h in
+    omega arith
   where
-    go : (q : ℕ) → q * width + v % width ≡ v → 1 ≤ q
-    go zero e = let l : v % width < width = mod-lt v h in absurd (omega arith)
-    go (suc q) e = omega arith
+    one-back : (n : ℕ) → 1 ≤ n → n * width ≡ (n - 1) * width + width
+    one-back zero l = absurd (omega arith)
+    one-back (suc n) l = let less : suc n - 1 ≡ n = omega arith in rw (less, suc-mul n width)
+
+-- a place on the grid, counted from 1
+on-some : (width height r c : ℕ) → onGrid width height r c ≡ true → (1 ≤ r) × (1 ≤ c)
+unfolding onGrid
+on-some width height r c e =
+    let rows = and-both (ltb 0 r && leb r height) (ltb 0 c && leb c width) (of-true e) in
+    let row = and-both (ltb 0 r) (leb r height) (rows .0) in
+    let col = and-both (ltb 0 c) (leb c width) (rows .1) in
+    (leb→le 1 r (row .0), leb→le 1 c (col .0))
 
 least-one : (a g : Bool) (x cell : ℕ) (f : ℕ → ℕ) → (g ≡ true → x ≡ f cell) → f cell ≤ 127 → orNone (a || not g) x ≡ leastOf (map f (unless a (only g cell)))
 unfolding orNone leastOf unless only
@@ -271,13 +269,15 @@ unfolding leastTo
 leastTo-same zero f g h = refl
 leastTo-same (suc n) f g h = rw (leastTo-same n f g (λ m l. h m (omega arith)), h n (omega arith))
 
-module _ (layers : List ℕ) (width height next row col mark : ℕ) (some : 1 ≤ row) where
+module _ (layers : List ℕ) (width height next row col mark : ℕ) where
   near-level-is : (m : ℕ) → m < moveCount → nearLevel layers width (next + (row * width + col)) mark (edgeMark width height row col) m ≡ leastOf (map (levelIn layers next) (spared width height row col mark m))
   unfolding nearLevel edgeMark leaves nearEntry landing levelIn cellAt
   near-level-is m h =
       ap (λ b. orNone (odd (halves m mark) || b) (getD layers (nearEntry width (next + (row * width + col)) m) 0 % 128)) (digit-read (leaves width height row col) m h)
       ∙ least-one (odd (halves m mark)) (onGrid width height (rowAfter row m) (colAfter col m)) (getD layers (nearEntry width (next + (row * width + col)) m) 0 % 128) (cellAt width (rowAfter row m) (colAfter col m)) (levelIn layers next)
-      (λ e. ap (λ x. getD layers x 0 % 128) (entry-cell width next row col (getD rowChanges m 1) (getD colChanges m 1) some (col-some width height (rowAfter row m) (colAfter col m) e)))
+      (λ e.
+      let on = on-some width height (rowAfter row m) (colAfter col m) e in
+      ap (λ x. getD layers x 0 % 128) (entry-cell width next row col (getD rowChanges m 1) (getD colChanges m 1) (on .0) (on .1)))
       (omega arith)
 
   near-least : leastTo moveCount (nearLevel layers width (next + (row * width + col)) mark (edgeMark width height row col)) ≡ leastOf (map (levelIn layers next) (turnsBy width height row col mark))
@@ -296,12 +296,12 @@ either-way true false floor edge x y e n f = rw (ne-eqb floor 255 (λ q. n (sym 
 either-way false true floor edge x y e n f = refl
 either-way false false floor edge x y e n f = rw e
 
-module _ (width height : ℕ) (bytes layers : List ℕ) (next v mark floor : ℕ) (wide : 1 ≤ width) (low : width ≤ v) (inside : v < width * height) (laid : floor ≡ floorMark (lentHall width height bytes) v) where
+module _ (width height : ℕ) (bytes layers : List ℕ) (next v mark floor : ℕ) (inside : v < width * height) (laid : floor ≡ floorMark (lentHall width height bytes) v) where
   onward-same : floor ≡ edgeMark width height (v / width) (v % width) → afterStep false (leastTo moveCount (nearLevel layers width (next + v) mark floor)) ≡ afterStep (eqb v (width * height)) (leastOf (map (levelIn layers next) (turnsBy width height (v / width) (v % width) mark)))
   onward-same e =
       ap (λ x. afterStep false (leastTo moveCount (nearLevel layers width (next + v) mark x))) e
       ∙ ap (λ x. afterStep false (leastTo moveCount (nearLevel layers width (next + x) mark (edgeMark width height (v / width) (v % width))))) (sym (div-add-mod' v width))
-      ∙ ap (afterStep false) (near-least layers width height next (v / width) (v % width) mark (row-some width v wide low))
+      ∙ ap (afterStep false) (near-least layers width height next (v / width) (v % width) mark)
       ∙ ap (λ b. afterStep b (leastOf (map (levelIn layers next) (turnsBy width height (v / width) (v % width) mark)))) (sym (ne-eqb v (width * height) (λ q. omega arith)))
 
   pub near-is-made : nearByte layers width (next + v) mark floor ≡ madeByte (lentHall width height bytes) (width * height) layers next v mark
@@ -315,72 +315,94 @@ module _ (width height : ℕ) (bytes layers : List ℕ) (next v mark floor : ℕ
       (edge-not-whole width height (v / width) (v % width))
       onward-same)
 
--- ---- one cell more between the first row and the last
+-- ---- a span
 
-pub between-more : (width height : ℕ) (bytes floor : List ℕ) (base v : ℕ) (a b c : List ℕ) → 1 ≤ width → width ≤ v → v + width < width * height → base + width * height + width * height ≤ length a → Floored (lentHall width height bytes) floor → Made base width v (madeByte (lentHall width height bytes) (width * height) a (base + width * height)) a b → c ≡ set b (base + v) (nearByte b width (base + width * height + v) (getD b (base + v) 0) (getD floor v 0)) → Made base width (v + 1) (madeByte (lentHall width height bytes) (width * height) a (base + width * height)) a c
-between-more width height bytes floor base v a b c wide low high room laid m e =
-    rw e
-    (made-up base width v (madeByte (lentHall width height bytes) (width * height) a (base + width * height)) a b m low (omega arith)
-    (nearByte b width (base + width * height + v) (getD b (base + v) 0) (getD floor v 0))
-    (near-is-made width height bytes b (base + width * height) v (getD b (base + v) 0) (getD floor v 0) wide low (omega arith) (laid .marks v (omega arith))
-    ∙ byte-same (lentHall width height bytes) (width * height) a b (base + width * height) v (getD b (base + v) 0) (λ w l. m .over (base + width * height + w) (omega arith))
-    ∙ ap (madeByte (lentHall width height bytes) (width * height) a (base + width * height) v) (m .over (base + v) (omega arith))))
+module _ (width height : ℕ) (bytes floor : List ℕ) (base from v : ℕ) (a b c : List ℕ) where
+  -- one cell more
+  pub span-more : from ≤ v → v < width * height → base + width * height + v < length a → Floored (lentHall width height bytes) floor → Made base from v (madeByte (lentHall width height bytes) (width * height) a (base + width * height)) a b → c ≡ set b (base + v) (nearByte b width (base + width * height + v) (getD b (base + v) 0) (getD floor v 0)) → Made base from (v + 1) (madeByte (lentHall width height bytes) (width * height) a (base + width * height)) a c
+  span-more low high room laid m e =
+      rw e
+      (made-up base from v (madeByte (lentHall width height bytes) (width * height) a (base + width * height)) a b m low (omega arith)
+      (nearByte b width (base + width * height + v) (getD b (base + v) 0) (getD floor v 0))
+      (near-is-made width height bytes b (base + width * height) v (getD b (base + v) 0) (getD floor v 0) high (laid .marks v high)
+      ∙ byte-same (lentHall width height bytes) (width * height) a b (base + width * height) v (getD b (base + v) 0) (λ w l. m .over (base + width * height + w) (omega arith))
+      ∙ ap (madeByte (lentHall width height bytes) (width * height) a (base + width * height) v) (m .over (base + v) (omega arith))))
 
--- all cells between them; where there are none, none
-pub between-all : (width height base v : ℕ) (byte : ℕ → ℕ → ℕ) (a b : List ℕ) → width ≤ v → (v ≡ width) ⊎ (v + width ≤ width * height) → width * height ≤ v + width → Made base width v byte a b → Made base width (width * height - width) byte a b
-between-all width height base v byte a b low (inl e) high m =
-    record {
-      long = m .long;
-      made = λ u l h. absurd (omega arith);
-      under = m .under;
-      over = λ x l. fewer x (decLt x (base + v));
-    }
-  where
-    fewer : (x : ℕ) → Dec (x < base + v) → getD b x 0 ≡ getD a x 0
-    fewer x (yes h) = m .under x (omega arith)
-    fewer x (no n) = m .over x (omega (arith, n))
-between-all width height base v byte a b low (inr e) high m =
-    let same : v ≡ width * height - width = omega arith in
-    subst (λ x. Made base width x byte a b) same m
+pub span-all : (base from to v : ℕ) (byte : ℕ → ℕ → ℕ) (a b : List ℕ) → v ≤ to → to ≤ v → Made base from v byte a b → Made base from to byte a b
+span-all base from to v byte a b low high m = let same : v ≡ to = omega arith in subst (λ x. Made base from x byte a b) same m
 
 -- ---- the rows of a layer, joined
 
-last-row : (width height : ℕ) → 1 < height → ((height - 1) * width + width ≡ width * height) × (width ≤ (height - 1) * width)
-last-row width zero h = absurd (omega arith)
-last-row width (suc zero) h = absurd (omega arith)
-last-row width (suc (suc n)) h =
-    let less : suc (suc n) - 1 ≡ suc n = omega arith in
-    (rw (less, mul-comm width (suc (suc n)), suc-mul (suc n) width), rw (less, suc-mul n width) (omega arith))
+pub rows-some : (width height : ℕ) → 1 ≤ height → width ≤ width * height
+rows-some width height h = let inside = rows-inside width height 0 h in omega arith
 
-pub one-row : (width height base : ℕ) (byte : ℕ → ℕ → ℕ) (a : List ℕ) → height ≡ 1 → Made base width (width * height) byte a a
-one-row width height base byte a e = made-none base width (width * height) byte a (rw e (omega arith))
+pub rows-two : (width height : ℕ) → 1 < height → width + width ≤ width * height
+rows-two width height h = let inside = rows-inside width height 1 h in omega arith
 
-module _ (width height : ℕ) (bytes : List ℕ) (goal base : ℕ) (a b c : List ℕ) where
-  -- the last row, then those between
-  pub below-joined : 1 < height → Made base ((height - 1) * width) ((height - 1) * width + width) (madeByte (lentHall width height bytes) goal a (base + width * height)) a b → Made base width (width * height - width) (madeByte (lentHall width height bytes) goal b (base + width * height)) b c → Made base width (width * height) (madeByte (lentHall width height bytes) goal a (base + width * height)) a c
-  below-joined many m n =
-      let last = last-row width height many in
-      let mid : (height - 1) * width ≡ width * height - width = omega (arith, last .0) in
-      rows-more (lentHall width height bytes) goal base width (width * height - width) (width * height) a b c (omega arith)
-      (subst (λ x. Made base x (width * height) (madeByte (lentHall width height bytes) goal a (base + width * height)) a b) mid
-      (subst (λ x. Made base ((height - 1) * width) x (madeByte (lentHall width height bytes) goal a (base + width * height)) a b) (last .0) m))
-      n
-      (omega (arith, last .1)) (omega arith)
+module _ (width height : ℕ) (bytes : List ℕ) (goal base : ℕ) (a b : List ℕ) where
+  -- the last row by its cells
+  pub bottom-row : 1 ≤ height → Made base ((height - 1) * width) ((height - 1) * width + width) (madeByte (lentHall width height bytes) goal a (base + width * height)) a b → Made base (width * height - width) (width * height) (madeByte (lentHall width height bytes) goal a (base + width * height)) a b
+  bottom-row some m =
+      let less : height - 1 + 1 ≡ height = omega arith in
+      let end : (height - 1) * width + width ≡ width * height = sym (one-more (height - 1) width) ∙ ap (λ x. x * width) less ∙ mul-comm height width in
+      let start : (height - 1) * width ≡ width * height - width = omega arith in
+      subst (λ x. Made base x (width * height) (madeByte (lentHall width height bytes) goal a (base + width * height)) a b) start
+      (subst (λ x. Made base ((height - 1) * width) x (madeByte (lentHall width height bytes) goal a (base + width * height)) a b) end m)
 
-  -- then the first
-  pub rows-joined : 1 ≤ height → Made base width (width * height) (madeByte (lentHall width height bytes) goal a (base + width * height)) a b → Made base (0 * width) (0 * width + width) (madeByte (lentHall width height bytes) goal b (base + width * height)) b c → Made base 0 (width * height) (madeByte (lentHall width height bytes) goal a (base + width * height)) a c
-  rows-joined some m n =
-      let first : 0 * width ≡ 0 = omega arith in
-      let whole : 0 * width + width ≡ width = omega arith in
-      let inside = rows-inside width height 0 (omega arith) in
-      rows-more (lentHall width height bytes) goal base 0 width (width * height) a b c (omega arith) m
-      (subst (λ x. Made base x width (madeByte (lentHall width height bytes) goal b (base + width * height)) b c) first
-      (subst (λ x. Made base (0 * width) x (madeByte (lentHall width height bytes) goal b (base + width * height)) b c) whole n))
-      (omega arith) (omega arith)
+  -- the only row
+  pub one-row : height ≡ 1 → Made base (width * height - width) (width * height) (madeByte (lentHall width height bytes) goal a (base + width * height)) a b → Made base 0 (width * height) (madeByte (lentHall width height bytes) goal a (base + width * height)) a b
+  one-row e m =
+      let start : width * height - width ≡ 0 = rw e (omega arith) in
+      subst (λ x. Made base x (width * height) (madeByte (lentHall width height bytes) goal a (base + width * height)) a b) start m
 
-  -- the goal by its row and column
-  pub goal-place : (byte : ℕ) → byte ≡ madeByte (lentHall width height bytes) goal a (base + width * height) (goal / width * width + goal % width) (getD a (base + (goal / width * width + goal % width)) 0) → byte ≡ madeByte (lentHall width height bytes) goal a (base + width * height) goal (getD a (base + goal) 0)
-  goal-place byte e = subst (λ x. byte ≡ madeByte (lentHall width height bytes) goal a (base + width * height) x (getD a (base + x) 0)) (div-add-mod' goal width) e
+-- the last row, those between, the first
+pub rows-joined : (width height : ℕ) (bytes : List ℕ) (goal base : ℕ) (a b c d : List ℕ) → 1 < height → Made base (width * height - width) (width * height) (madeByte (lentHall width height bytes) goal a (base + width * height)) a b → Made base width (width * height - width) (madeByte (lentHall width height bytes) goal b (base + width * height)) b c → Made base 0 width (madeByte (lentHall width height bytes) goal c (base + width * height)) c d → Made base 0 (width * height) (madeByte (lentHall width height bytes) goal a (base + width * height)) a d
+rows-joined width height bytes goal base a b c d many m n o =
+    let two = rows-two width height many in
+    rows-more (lentHall width height bytes) goal base 0 width (width * height) a c d (omega arith)
+    (rows-more (lentHall width height bytes) goal base width (width * height - width) (width * height) a b c (omega arith) m n (omega arith) (omega arith))
+    o (omega arith) (omega arith)
+
+-- ---- the goal
+
+-- a byte whose level is not 1 is left as it is
+rested-kept : (l mark : ℕ) → l ≤ 127 → (l ≡ 1 → ⊥) → l + crossingStarts mark ≡ restedByte (l + crossingStarts mark)
+unfolding restedByte
+rested-kept l mark h n = rw (restedByte, read-level l mark h, ne-eqb l 1 n)
+
+rested-one : (mark : ℕ) → crossingStarts mark ≡ restedByte (1 + crossingStarts mark)
+unfolding restedByte
+rested-one mark = rw (restedByte, read-level 1 mark (omega arith)) (omega arith)
+
+step-rested : (least mark : ℕ) → least ≤ 127 → afterStep true least + crossingStarts mark ≡ restedByte (afterStep false least + crossingStarts mark)
+step-rested least mark h = go (ℕ-discrete least 127) (ℕ-discrete least 0)
+  where
+    go : Dec (least ≡ 127) → Dec (least ≡ 0) → afterStep true least + crossingStarts mark ≡ restedByte (afterStep false least + crossingStarts mark)
+    go (yes e) z =
+        rw (sym (step-none true least e), sym (step-none false least e)) (rested-kept 127 mark (omega arith) (λ q. absurd (omega arith)))
+    go (no n) (yes e) =
+        rw (sym (step-stays true least refl e), sym (step-arrives false least refl e)) (omega (arith, rested-one mark))
+    go (no n) (no k) =
+        rw (sym (step-more true least n k), sym (step-more false least n k)) (rested-kept (least + 1) mark (omega (arith, n)) (λ q. k (omega arith)))
+
+pub rested-down : (byte : ℕ) → byte % 128 ≡ 1 → byte - 1 ≡ restedByte byte
+unfolding restedByte
+rested-down byte e = rw (restedByte, e)
+
+pub rested-same : (byte : ℕ) → (byte % 128 ≡ 1 → ⊥) → byte ≡ restedByte byte
+unfolding restedByte
+rested-same byte n = rw (restedByte, ne-eqb (byte % 128) 1 n)
+
+pub goal-rested : (hall : Hall) (layers : List ℕ) (next goal mark : ℕ) → goal < size hall → madeByte hall goal layers next goal mark ≡ restedByte (madeByte hall (size hall) layers next goal mark)
+unfolding madeByte madeLevel
+goal-rested hall layers next goal mark inside = go (mayBegin hall goal mark)
+  where
+    least : ℕ
+    least = leastOf (map (levelIn layers next) (turnsBy (hall .width) (hall .height) (goal / hall .width) (goal % hall .width) mark))
+
+    go : (b : Bool) → elim b [ true ↦ afterStep (eqb goal goal) least | false ↦ 127 ] + crossingStarts mark ≡ restedByte (elim b [ true ↦ afterStep (eqb goal (size hall)) least | false ↦ 127 ] + crossingStarts mark)
+    go true = rw (eq-eqb goal goal refl, ne-eqb goal (size hall) (λ q. omega arith)) (step-rested least mark (least-most (map (levelIn layers next) (turnsBy (hall .width) (hall .height) (goal / hall .width) (goal % hall .width) mark))))
+    go false = rested-kept 127 mark (omega arith) (λ q. absurd (omega arith))
 
 pub height-some : (width height start : ℕ) → start < width * height → 1 ≤ height
 height-some width zero start h = absurd (omega arith)

@@ -61,7 +61,7 @@ madeLevel hall goal onward v mark =
 unfoldable pub lastLevel : Hall → ℕ → ℕ → ℕ → ℕ
 lastLevel hall goal v mark = elim (mayBegin hall v mark && eqb v goal) [ true ↦ 0 | false ↦ 127 ]
 
--- ---- one byte in a row that is neither the first nor the last
+-- ---- one byte, as it is filled in a span
 
 -- what no bar changes: 255 where a cell is closed, otherwise a binary digit for each move that leaves the grid
 
@@ -99,6 +99,10 @@ nearLevel layers width under mark floor m = orNone (odd (halves m mark) || odd (
 unfoldable pub nearByte : List ℕ → ℕ → ℕ → ℕ → ℕ → ℕ
 nearByte layers width under mark floor =
     orNone (eqb mark 255 || eqb floor 255) (afterStep false (leastTo moveCount (nearLevel layers width under mark floor))) + crossingStarts mark
+
+-- the byte of the goal, made of what it were if the goal were elsewhere: where all of the rest is on it, nothing is added
+unfoldable pub restedByte : ℕ → ℕ
+restedByte byte = elim (eqb (byte % 128) 1) [ true ↦ byte - 1 | false ↦ byte ]
 
 -- ---- many bytes
 

@@ -18,7 +18,7 @@ ghost use Rattle.marks.specs.Post.{Layered};
 ghost use Rattle.layers.specs.Layers.{crossingStarts, wayFrom, routeFrom, writtenRoute, Filled};
 ghost use Rattle.layers.specs.Post.{SoughtRoute};
 ghost use Rattle.layers.specs.Write.{hasLevel, goneTo, writtenFrom};
-ghost use Rattle.layers.specs.Fill.{lentHall, levelIn, leastOf, leastTo, odd, unless, turnsBy, afterStep, orNone, leaves, edgeMark, floorMark, nearEntry, nearLevel, nearByte, madeLevel, lastLevel, madeByte, lastByte, Floored, Made, MadeFrom, Levelled};
+ghost use Rattle.layers.specs.Fill.{lentHall, levelIn, leastOf, leastTo, odd, unless, turnsBy, afterStep, orNone, leaves, edgeMark, floorMark, nearEntry, nearLevel, nearByte, restedByte, madeLevel, lastLevel, madeByte, lastByte, Floored, Made, MadeFrom, Levelled};
 
 // The level of a cell from which there is no way to the goal.
 const NO_WAY: usize = 127;
@@ -195,35 +195,6 @@ fn last_level(hall: &[u8], width: usize, height: usize, goal: usize, v: usize, m
 
 // ---- one layer
 
-// The byte of a cell before the horizon, of its mark and of the layer that follows.
-fn byte_of(
-    hall: &[u8],
-    width: usize,
-    height: usize,
-    goal: usize,
-    base: usize,
-    row: usize,
-    col: usize,
-    layers: &[u8],
-) -> u8
-    requires { ⌜ (width ≤ 16) × (height ≤ 16) × (row < height) × (col < width) × (base + width * height + width * height ≤ length (now layers)) ⌝ }
-    ensures { λ r. ⌜ r ≡ madeByte (lentHall width height (now (hall .entry))) goal (now (layers .entry)) (base + width * height) (row * width + col) (getD (now (layers .entry)) (base + (row * width + col)) 0) ⌝ }
-{
-    let mark = layers[base + (row * width + col)];
-    let level = cell_level(
-        hall,
-        layers,
-        width,
-        height,
-        goal,
-        base + width * height,
-        row,
-        col,
-        mark as usize,
-    );
-    level as u8 + crossing(mark)
-}
-
 fn fill_cell(
     hall: &[u8],
     width: usize,
@@ -237,8 +208,20 @@ fn fill_cell(
     requires { ⌜ (width ≤ 16) × (height ≤ 16) × (row < height) × (col < width) × (base + width * height + width * height ≤ length (now layers)) ⌝ }
     ensures { λ _. ⌜ now (layers .exit) ≡ set (now (layers .entry)) (base + (row * width + col)) (madeByte (lentHall width height (now (hall .entry))) goal (now (layers .entry)) (base + width * height) (row * width + col) (getD (now (layers .entry)) (base + (row * width + col)) 0)) ⌝ }
 {
-    let byte = byte_of(hall, width, height, goal, base, row, col, layers);
-    layers[base + (row * width + col)] = byte;
+    let at = base + (row * width + col);
+    let mark = layers[at];
+    let level = cell_level(
+        hall,
+        layers,
+        width,
+        height,
+        goal,
+        base + width * height,
+        row,
+        col,
+        mark as usize,
+    );
+    layers[at] = level as u8 + crossing(mark);
 }
 
 fn fill_row(
@@ -260,7 +243,7 @@ fn fill_row(
     }
 }
 
-// ---- the rows between the first and the last, where up and down never leave the grid
+// ---- a layer by spans of cells that are all filled alike
 
 // One more than the greatest cell number.
 const CELLS: usize = 256;
@@ -384,28 +367,31 @@ fn fill_near(width: usize, under: usize, at: usize, floor: u8, layers: &mut [u8]
     layers[at] = byte;
 }
 
-fn fill_between(
+// The cells from one up to another, with the goal nowhere.
+fn fill_span(
     hall: &[u8],
     floor: &[u8],
     width: usize,
     height: usize,
     base: usize,
+    from: usize,
+    to: usize,
     layers: &mut [u8],
 )
-    requires { ⌜ (1 ≤ width) × (width ≤ 16) × (height ≤ 16) × (base + width * height + width * height ≤ length (now layers)) ⌝ }
+    requires { ⌜ (1 ≤ width) × (width ≤ 16) × (height ≤ 16) × (from ≤ to) × (to ≤ width * height) × (base + width * height + to + width ≤ length (now layers)) × (width ≤ width * height) ⌝ }
     requires { ⌜ Floored (lentHall width height (now hall)) (now floor) ⌝ }
-    ensures { λ _. ⌜ Made base width (width * height - width) (madeByte (lentHall width height (now (hall .entry))) (width * height) (now (layers .entry)) (base + width * height)) (now (layers .entry)) (now (layers .exit)) ⌝ }
+    ensures { λ _. ⌜ Made base from to (madeByte (lentHall width height (now (hall .entry))) (width * height) (now (layers .entry)) (base + width * height)) (now (layers .entry)) (now (layers .exit)) ⌝ }
 {
     let size = width * height;
-    let mut v = width;
-    while v + width < size {
+    let mut v = from;
+    while v < to {
         fill_near(width, base + size + v, base + v, floor[v], layers);
         v += 1;
     }
 }
 
-// All rows but the first, with the goal nowhere.
-fn fill_below(
+// The last row: where no entry lies below its next layer it is filled by cells, which read none there.
+fn fill_bottom(
     hall: &[u8],
     floor: &[u8],
     width: usize,
@@ -415,33 +401,50 @@ fn fill_below(
 )
     requires { ⌜ (1 ≤ width) × (width ≤ 16) × (1 ≤ height) × (height ≤ 16) × (base + width * height + width * height ≤ length (now layers)) ⌝ }
     requires { ⌜ Floored (lentHall width height (now hall)) (now floor) ⌝ }
-    ensures { λ _. ⌜ Made base width (width * height) (madeByte (lentHall width height (now (hall .entry))) (width * height) (now (layers .entry)) (base + width * height)) (now (layers .entry)) (now (layers .exit)) ⌝ }
+    ensures { λ _. ⌜ Made base (width * height - width) (width * height) (madeByte (lentHall width height (now (hall .entry))) (width * height) (now (layers .entry)) (base + width * height)) (now (layers .entry)) (now (layers .exit)) ⌝ }
 {
-    if height == 1 {
+    let size = width * height;
+    if base + size + size + width <= layers.len() {
+        fill_span(hall, floor, width, height, base, size - width, size, layers);
         return;
     }
-    fill_row(
-        hall,
-        width,
-        height,
-        width * height,
-        base,
-        height - 1,
-        layers,
-    );
-    fill_between(hall, floor, width, height, base, layers);
+    fill_row(hall, width, height, size, base, height - 1, layers);
 }
 
+// All rows, with the goal nowhere. The rows between the first and the last are one span, so that what is read lies apart from what is written.
 fn fill_rows(hall: &[u8], floor: &[u8], width: usize, height: usize, base: usize, layers: &mut [u8])
     requires { ⌜ (1 ≤ width) × (width ≤ 16) × (1 ≤ height) × (height ≤ 16) × (base + width * height + width * height ≤ length (now layers)) ⌝ }
     requires { ⌜ Floored (lentHall width height (now hall)) (now floor) ⌝ }
     ensures { λ _. ⌜ Made base 0 (width * height) (madeByte (lentHall width height (now (hall .entry))) (width * height) (now (layers .entry)) (base + width * height)) (now (layers .entry)) (now (layers .exit)) ⌝ }
 {
-    fill_below(hall, floor, width, height, base, layers);
-    fill_row(hall, width, height, width * height, base, 0, layers);
+    fill_bottom(hall, floor, width, height, base, layers);
+    if height == 1 {
+        return;
+    }
+    fill_span(
+        hall,
+        floor,
+        width,
+        height,
+        base,
+        width,
+        width * height - width,
+        layers,
+    );
+    fill_span(hall, floor, width, height, base, 0, width, layers);
 }
 
-// A layer before the horizon, of the one that follows it. The goal is filled apart, so that all other cells are filled alike.
+// On the goal itself, nothing is added where all of the rest is on it.
+fn rested(byte: u8) -> u8
+    ensures { λ r. ⌜ r ≡ restedByte byte ⌝ }
+{
+    if byte % 128 == 1 {
+        return byte - 1;
+    }
+    byte
+}
+
+// A layer before the horizon, of the one that follows it.
 fn fill_layer(
     hall: &[u8],
     floor: &[u8],
@@ -455,22 +458,11 @@ fn fill_layer(
     requires { ⌜ Floored (lentHall width height (now hall)) (now floor) ⌝ }
     ensures { λ _. ⌜ Made base 0 (width * height) (madeByte (lentHall width height (now (hall .entry))) goal (now (layers .entry)) (base + width * height)) (now (layers .entry)) (now (layers .exit)) ⌝ }
 {
+    fill_rows(hall, floor, width, height, base, layers);
     if width * height <= goal {
-        fill_rows(hall, floor, width, height, base, layers);
         return;
     }
-    let byte = byte_of(
-        hall,
-        width,
-        height,
-        goal,
-        base,
-        goal / width,
-        goal % width,
-        layers,
-    );
-    fill_rows(hall, floor, width, height, base, layers);
-    layers[base + goal] = byte;
+    layers[base + goal] = rested(layers[base + goal]);
 }
 
 fn last_cell(
