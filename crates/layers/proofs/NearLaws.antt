@@ -5,14 +5,14 @@ use Prim.Native.Nat.{ℕ, zero, suc, _+_, _-_, _*_, _/_, _%_, _^_, min, _≤_, _
 use native.Mathlib.Nat.{add-mul, suc-mul, mul-comm, div-add-mod'}
 use native.Mathlib.Omega.{arith}
 use native.Mathlib.Numerals.{add-one}
-use native.Mathlib.Decide.{ℕ-discrete}
+use native.Mathlib.Decide.{ℕ-discrete, decLe, decLt}
 use mathlib.Core.Path.{_≡_, refl, sym, ap, subst, _∙_}
 use mathlib.Core.Bool.{Bool, true, false, not, _&&_, _||_}
 use mathlib.Core.List.{List, [], _∷_, map}
 use lib.Dec.{eqb, ltb, leb, leb→le}
 use lib.ListN.{length, getD, set, length-set}
 use lib.Seq.{getD-set-same, getD-set-other}
-use borrow.Author.Tests.{eq-eqb, ne-eqb}
+use borrow.Author.Tests.{eq-eqb, ne-eqb, lt-ltb, le-ltb, le-leb, lt-leb}
 use Rattle.lists.specs.Lists.{sumTo, only}
 use Rattle.lists.proofs.Bools.{of-true, and-both}
 use Rattle.hall.specs.Hall.{Hall, size, isOpen}
@@ -22,10 +22,10 @@ use Rattle.hall.specs.declared.Landing.{Landing}
 use Rattle.hall.specs.declared.Landing.the-variants.{Off, Cell}
 use Rattle.marks.specs.Marks.{digit}
 use Rattle.layers.specs.Layers.{crossingStarts}
-use Rattle.layers.specs.Fill.{lentHall, levelIn, leastOf, halves, odd, unless, turnsBy, afterStep, mayBegin, madeLevel, madeByte, leaves, edgeMark, floorMark, Floored, leastTo, nearEntry, orNone, nearLevel, nearByte, restedByte, Made}
+use Rattle.layers.specs.Fill.{lentHall, levelIn, leastOf, halves, odd, unless, turnsBy, afterStep, mayBegin, madeLevel, madeByte, leaves, edgeMark, floorMark, Floored, leastTo, nearEntry, orNone, nearLevel, nearByte, restedByte, spanStart, Made, FilledFrom}
 use Rattle.layers.proofs.Turns.{digit-read}
 use Rattle.layers.proofs.Filled.{read-level}
-use Rattle.layers.proofs.MadeLaws.{made-up, byte-same, rows-more, one-more, rows-inside}
+use Rattle.layers.proofs.MadeLaws.{made-none, made-up, byte-same, rows-more, one-more, rows-inside}
 use Rattle.layers.proofs.CellLaws.{least-most, leastTo-most, spared, least-all, step-none, step-stays, step-arrives, step-more, step-small, crossing-small}
 
 -- ---- one move
@@ -336,32 +336,50 @@ span-all base from to v byte a b low high m = let same : v ≡ to = omega arith 
 pub rows-some : (width height : ℕ) → 1 ≤ height → width ≤ width * height
 rows-some width height h = let inside = rows-inside width height 0 h in omega arith
 
-pub rows-two : (width height : ℕ) → 1 < height → width + width ≤ width * height
-rows-two width height h = let inside = rows-inside width height 1 h in omega arith
+pub start-last : (width size end : ℕ) → size ≤ end → size - width ≡ spanStart width size end
+unfolding spanStart
+start-last width size end h = rw (spanStart, le-leb size end h)
 
-module _ (width height : ℕ) (bytes : List ℕ) (goal base : ℕ) (a b : List ℕ) where
-  -- the last row by its cells
-  pub bottom-row : 1 ≤ height → Made base ((height - 1) * width) ((height - 1) * width + width) (madeByte (lentHall width height bytes) goal a (base + width * height)) a b → Made base (width * height - width) (width * height) (madeByte (lentHall width height bytes) goal a (base + width * height)) a b
-  bottom-row some m =
+pub start-between : (width size end : ℕ) → (size ≤ end → ⊥) → width < end → width ≡ spanStart width size end
+unfolding spanStart
+start-between width size end n h = rw (spanStart, lt-leb size end (omega (arith, n)), lt-ltb width end h)
+
+pub start-first : (width size end : ℕ) → (size ≤ end → ⊥) → (width < end → ⊥) → 0 ≡ spanStart width size end
+unfolding spanStart
+start-first width size end n k = rw (spanStart, lt-leb size end (omega (arith, n)), le-ltb width end (omega (arith, k)))
+
+pub start-before : (width size end : ℕ) → 1 ≤ width → width ≤ size → 0 < end → spanStart width size end < end
+start-before width size end wide some h = go (decLe size end) (decLt width end)
+  where
+    go : Dec (size ≤ end) → Dec (width < end) → spanStart width size end < end
+    go (yes l) k = omega (arith, start-last width size end l)
+    go (no n) (yes l) = omega (arith, start-between width size end n l)
+    go (no n) (no k) = omega (arith, start-first width size end n k)
+
+module _ (width height : ℕ) (bytes : List ℕ) (base : ℕ) (a : List ℕ) where
+  -- nothing is filled yet
+  pub bottom-none : base + width * height + width * height + width ≤ length a → FilledFrom (lentHall width height bytes) base a (width * height) a
+  bottom-none room = record { within = omega arith; room = room; made = made-none base (width * height) (width * height) (madeByte (lentHall width height bytes) (width * height) a (base + width * height)) a (omega arith) }
+
+  -- the last row is, by its cells
+  pub bottom-row : (b : List ℕ) → 1 ≤ height → base + width * height + width * height ≤ length a → Made base ((height - 1) * width) ((height - 1) * width + width) (madeByte (lentHall width height bytes) (width * height) a (base + width * height)) a b → FilledFrom (lentHall width height bytes) base a (width * height - width) b
+  bottom-row b some room m =
       let less : height - 1 + 1 ≡ height = omega arith in
       let end : (height - 1) * width + width ≡ width * height = sym (one-more (height - 1) width) ∙ ap (λ x. x * width) less ∙ mul-comm height width in
       let start : (height - 1) * width ≡ width * height - width = omega arith in
-      subst (λ x. Made base x (width * height) (madeByte (lentHall width height bytes) goal a (base + width * height)) a b) start
-      (subst (λ x. Made base ((height - 1) * width) x (madeByte (lentHall width height bytes) goal a (base + width * height)) a b) end m)
+      record {
+        within = omega arith;
+        room = omega arith;
+        made = subst (λ x. Made base x (width * height) (madeByte (lentHall width height bytes) (width * height) a (base + width * height)) a b) start
+            (subst (λ x. Made base ((height - 1) * width) x (madeByte (lentHall width height bytes) (width * height) a (base + width * height)) a b) end m);
+      }
 
-  -- the only row
-  pub one-row : height ≡ 1 → Made base (width * height - width) (width * height) (madeByte (lentHall width height bytes) goal a (base + width * height)) a b → Made base 0 (width * height) (madeByte (lentHall width height bytes) goal a (base + width * height)) a b
-  one-row e m =
-      let start : width * height - width ≡ 0 = rw e (omega arith) in
-      subst (λ x. Made base x (width * height) (madeByte (lentHall width height bytes) goal a (base + width * height)) a b) start m
-
--- the last row, those between, the first
-pub rows-joined : (width height : ℕ) (bytes : List ℕ) (goal base : ℕ) (a b c d : List ℕ) → 1 < height → Made base (width * height - width) (width * height) (madeByte (lentHall width height bytes) goal a (base + width * height)) a b → Made base width (width * height - width) (madeByte (lentHall width height bytes) goal b (base + width * height)) b c → Made base 0 width (madeByte (lentHall width height bytes) goal c (base + width * height)) c d → Made base 0 (width * height) (madeByte (lentHall width height bytes) goal a (base + width * height)) a d
-rows-joined width height bytes goal base a b c d many m n o =
-    let two = rows-two width height many in
-    rows-more (lentHall width height bytes) goal base 0 width (width * height) a c d (omega arith)
-    (rows-more (lentHall width height bytes) goal base width (width * height - width) (width * height) a b c (omega arith) m n (omega arith) (omega arith))
-    o (omega arith) (omega arith)
+  -- and the spans before it
+  pub filled-all : (b c : List ℕ) (end from : ℕ) → FilledFrom (lentHall width height bytes) base a end b → Made base from end (madeByte (lentHall width height bytes) (width * height) b (base + width * height)) b c → from ≡ 0 → Made base 0 (width * height) (madeByte (lentHall width height bytes) (width * height) a (base + width * height)) a c
+  filled-all b c end from f m e =
+      rows-more (lentHall width height bytes) (width * height) base 0 end (width * height) a b c (omega arith) (f .made)
+      (subst (λ x. Made base x end (madeByte (lentHall width height bytes) (width * height) b (base + width * height)) b c) e m)
+      (omega arith) (f .within)
 
 -- ---- the goal
 

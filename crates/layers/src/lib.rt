@@ -18,7 +18,7 @@ ghost use Rattle.marks.specs.Post.{Layered};
 ghost use Rattle.layers.specs.Layers.{crossingStarts, wayFrom, routeFrom, writtenRoute, Filled};
 ghost use Rattle.layers.specs.Post.{SoughtRoute};
 ghost use Rattle.layers.specs.Write.{hasLevel, goneTo, writtenFrom};
-ghost use Rattle.layers.specs.Fill.{lentHall, levelIn, leastOf, leastTo, odd, unless, turnsBy, afterStep, orNone, leaves, edgeMark, floorMark, nearEntry, nearLevel, nearByte, restedByte, madeLevel, lastLevel, madeByte, lastByte, Floored, Made, MadeFrom, Levelled};
+ghost use Rattle.layers.specs.Fill.{lentHall, levelIn, leastOf, leastTo, odd, unless, turnsBy, afterStep, orNone, leaves, edgeMark, floorMark, nearEntry, nearLevel, nearByte, restedByte, madeLevel, lastLevel, madeByte, lastByte, spanStart, Floored, Made, FilledFrom, MadeFrom, Levelled};
 
 // The level of a cell from which there is no way to the goal.
 const NO_WAY: usize = 127;
@@ -390,48 +390,47 @@ fn fill_span(
     }
 }
 
-// The last row: where no entry lies below its next layer it is filled by cells, which read none there.
-fn fill_bottom(
-    hall: &[u8],
-    floor: &[u8],
-    width: usize,
-    height: usize,
-    base: usize,
-    layers: &mut [u8],
-)
+// The last row, where no entry lies below its next layer: it is filled by cells, which read none there. The cells from here on are
+// filled then.
+fn fill_bottom(hall: &[u8], width: usize, height: usize, base: usize, layers: &mut [u8]) -> usize
     requires { ⌜ (1 ≤ width) × (width ≤ 16) × (1 ≤ height) × (height ≤ 16) × (base + width * height + width * height ≤ length (now layers)) ⌝ }
-    requires { ⌜ Floored (lentHall width height (now hall)) (now floor) ⌝ }
-    ensures { λ _. ⌜ Made base (width * height - width) (width * height) (madeByte (lentHall width height (now (hall .entry))) (width * height) (now (layers .entry)) (base + width * height)) (now (layers .entry)) (now (layers .exit)) ⌝ }
+    ensures { λ r. ⌜ FilledFrom (lentHall width height (now (hall .entry))) base (now (layers .entry)) r (now (layers .exit)) ⌝ }
 {
     let size = width * height;
     if base + size + size + width <= layers.len() {
-        fill_span(hall, floor, width, height, base, size - width, size, layers);
-        return;
+        return size;
     }
     fill_row(hall, width, height, size, base, height - 1, layers);
+    size - width
 }
 
-// All rows, with the goal nowhere. The rows between the first and the last are one span, so that what is read lies apart from what is written.
+// Where the span of cells that ends here starts: the last row, those between, the first. What is read for the rows between lies apart
+// from what is written, so that the compiler may do many cells at once.
+fn span_start(width: usize, size: usize, end: usize) -> usize
+    requires { ⌜ width ≤ size ⌝ }
+    ensures { λ r. ⌜ r ≡ spanStart width size end ⌝ }
+{
+    if size <= end {
+        return size - width;
+    }
+    if width < end {
+        return width;
+    }
+    0
+}
+
+// All rows, with the goal nowhere.
 fn fill_rows(hall: &[u8], floor: &[u8], width: usize, height: usize, base: usize, layers: &mut [u8])
     requires { ⌜ (1 ≤ width) × (width ≤ 16) × (1 ≤ height) × (height ≤ 16) × (base + width * height + width * height ≤ length (now layers)) ⌝ }
     requires { ⌜ Floored (lentHall width height (now hall)) (now floor) ⌝ }
     ensures { λ _. ⌜ Made base 0 (width * height) (madeByte (lentHall width height (now (hall .entry))) (width * height) (now (layers .entry)) (base + width * height)) (now (layers .entry)) (now (layers .exit)) ⌝ }
 {
-    fill_bottom(hall, floor, width, height, base, layers);
-    if height == 1 {
-        return;
+    let mut end = fill_bottom(hall, width, height, base, layers);
+    while 0 < end {
+        let from = span_start(width, width * height, end);
+        fill_span(hall, floor, width, height, base, from, end, layers);
+        end = from;
     }
-    fill_span(
-        hall,
-        floor,
-        width,
-        height,
-        base,
-        width,
-        width * height - width,
-        layers,
-    );
-    fill_span(hall, floor, width, height, base, 0, width, layers);
 }
 
 // On the goal itself, nothing is added where all of the rest is on it.

@@ -1,6 +1,5 @@
 -- `layers::fill_bottom` meets its contract. Assumes nothing.
 use native.Mathlib.Omega.{arith}
-use Prim.Native.Nat.{_*_}
 use Rattle.layers.proofs.NearLaws.{rows-some, bottom-row}
 use borrow.Author.Needs.{needs}
 use Rattle.layers.proofs.fill_bottom.Statement.{statement}
@@ -18,15 +17,6 @@ add-if1-2 c = search needs
 add-if1-3 : tie.Need-add-if1-3
 add-if1-3 c = search needs
 
-sub-fill-span : tie.Need-sub-fill-span
-sub-fill-span c = let some = rows-some (c .before .before .before .before .args .width) (c .before .before .before .before .args .height) (omega arith) in omega arith
-
-fill-span-requires : tie.Need-fill-span-requires
-fill-span-requires c κs = let some = rows-some (c .before .before .before .before .before .args .width) (c .before .before .before .before .before .args .height) (omega arith) in (omega arith, c .before .before .before .before .before .pre .1)
-
-same-length : tie.Need-same-length
-same-length c = search needs
-
 returns : tie.Need-returns
 returns c = search needs
 
@@ -36,11 +26,14 @@ sub-fill-row c = search needs
 fill-row-requires : tie.Need-fill-row-requires
 fill-row-requires c κs = search needs
 
-same-length-2 : tie.Need-same-length-2
-same-length-2 c = search needs
+sub-result : tie.Need-sub-result
+sub-result c = let some = rows-some (c .before .before .before .before .before .before .before .args .width) (c .before .before .before .before .before .before .before .args .height) (omega arith) in omega arith
+
+same-length : tie.Need-same-length
+same-length c = search needs
 
 returns-2 : tie.Need-returns-2
-returns-2 c = bottom-row (c .before .before .before .before .before .before .before .before .args .width) (c .before .before .before .before .before .before .before .before .args .height) (c .before .before .before .before .before .before .before .before .args .hall .now) (c .before .before .before .before .before .before .before .before .args .width * c .before .before .before .before .before .before .before .before .args .height) (c .before .before .before .before .before .before .before .before .args .base) (c .before .before .before .before .before .before .before .before .args .layers .now) (c .before .before .fill-row .last .1 .1 .1 .1 .1 .1 .0) (omega arith) (c .before .before .fill-row .ensures)
+returns-2 c = bottom-row (c .before .before .before .before .before .before .before .args .width) (c .before .before .before .before .before .before .before .args .height) (c .before .before .before .before .before .before .before .args .hall .now) (c .before .before .before .before .before .before .before .args .base) (c .before .before .before .before .before .before .before .args .layers .now) (c .before .before .fill-row .last .1 .1 .1 .1 .1 .1 .0) (omega arith) (omega arith) (c .before .before .fill-row .ensures)
 
 pub fill-bottom-spec : {M : Type 1} → statement M
 fill-bottom-spec =
@@ -50,11 +43,9 @@ fill-bottom-spec =
     add-if1
     add-if1-2
     add-if1-3
-    sub-fill-span
-    fill-span-requires
-    same-length
     returns
     sub-fill-row
     fill-row-requires
-    same-length-2
+    sub-result
+    same-length
     returns-2)

@@ -1,48 +1,60 @@
--- `layers::fill_rows` meets its contract: the last row, those between, the first. Assumes nothing.
+-- `layers::fill_rows` meets its contract: the layer is filled from the end of the next span on. Assumes nothing.
 use native.Mathlib.Omega.{arith}
-use Prim.Native.Nat.{_*_}
-use Rattle.layers.proofs.NearLaws.{rows-two, one-row, rows-joined}
 use borrow.Author.Needs.{needs}
+use Prim.Native.Nat.{_+_, _*_, _≤_}
+use mathlib.Core.Path.{_∙_}
+use Rattle.layers.specs.Fill.{lentHall, madeByte, Made}
+use Rattle.layers.proofs.CellLaws.{size-small}
+use Rattle.layers.proofs.MadeLaws.{made-none, rows-more}
+use Rattle.layers.proofs.NearLaws.{rows-some, start-before, filled-all}
 use Rattle.layers.proofs.fill_rows.Statement.{statement}
 use Rattle.layers.proofs.fill_rows.Tie as tie
 
-fill-bottom-requires : tie.Need-fill-bottom-requires
+abbrev Inv-loop : tie.InvT-loop
+Inv-loop hall floor width height base layers₀ end₀ layers end = (end ≤ end₀) × Made base end end₀ (madeByte (lentHall width height hall) (width * height) layers₀ (base + width * height)) layers₀ layers
+
+abbrev μ-loop : tie.MeasureT-loop
+μ-loop hall floor width height base layers₀ end₀ layers end = end
+
+fill-bottom-requires : tie.Need-fill-bottom-requires Inv-loop μ-loop
 fill-bottom-requires c κs = search needs
 
-same-length : tie.Need-same-length
-same-length c = search needs
+loop-holds : tie.Need-loop-holds Inv-loop μ-loop
+loop-holds c = (omega arith, made-none (c .before .before .before .before .before .before .before .args .base) (c .before .before .fill-bottom .result) (c .before .before .fill-bottom .result) (madeByte (lentHall (c .before .before .before .before .before .before .before .args .width) (c .before .before .before .before .before .before .before .args .height) (c .before .before .before .before .before .before .before .args .hall .now)) (c .before .before .before .before .before .before .before .args .width * c .before .before .before .before .before .before .before .args .height) (c .before .before .fill-bottom .last .1 .1 .1 .1 .0) (c .before .before .before .before .before .before .before .args .base + c .before .before .before .before .before .before .before .args .width * c .before .before .before .before .before .before .before .args .height)) (c .before .before .fill-bottom .last .1 .1 .1 .1 .0) (omega arith))
 
-returns : tie.Need-returns
-returns c = one-row (c .before .before .before .before .before .before .before .before .args .width) (c .before .before .before .before .before .before .before .before .args .height) (c .before .before .before .before .before .before .before .before .args .hall .now) (c .before .before .before .before .before .before .before .before .args .width * c .before .before .before .before .before .before .before .before .args .height) (c .before .before .before .before .before .before .before .before .args .base) (c .before .before .before .before .before .before .before .before .args .layers .now) (c .before .before .before .fill-bottom .last .1 .1 .1 .1 .1 .0) (c .if1 .taken) (c .before .before .before .fill-bottom .ensures)
+mul-span-start : tie.Need-mul-span-start Inv-loop μ-loop
+mul-span-start c = let small = size-small (c .before .before .before .before .before .before .before .before .before .args .width) (c .before .before .before .before .before .before .before .before .before .args .height) (omega arith) (omega arith) in omega arith
 
-mul-fill-span : tie.Need-mul-fill-span
-mul-fill-span c = search needs
+span-start-requires : tie.Need-span-start-requires Inv-loop μ-loop
+span-start-requires c κs = rows-some (c .before .before .before .before .before .before .before .before .before .args .width) (c .before .before .before .before .before .before .before .before .before .args .height) (omega arith)
 
-sub-fill-span : tie.Need-sub-fill-span
-sub-fill-span c = let two = rows-two (c .before .before .before .before .before .before .before .before .args .width) (c .before .before .before .before .before .before .before .before .args .height) (omega (arith, c .if1 .left)) in omega arith
+fill-span-requires : tie.Need-fill-span-requires Inv-loop μ-loop
+fill-span-requires c κs = let some = rows-some (c .before .before .before .before .before .before .before .before .before .before .before .args .width) (c .before .before .before .before .before .before .before .before .before .before .before .args .height) (omega arith) in let less = start-before (c .before .before .before .before .before .before .before .before .before .before .before .args .width) (c .before .before .before .before .before .before .before .before .before .before .before .args .width * c .before .before .before .before .before .before .before .before .before .before .before .args .height) (c .before .before .before .loop .end) (omega arith) some (c .before .before .loop-test .taken) in let bottom = c .before .before .before .before .before .before .fill-bottom .ensures in (omega (arith, c .before .span-start .ensures, bottom .within, bottom .room, bottom .made .long, c .before .before .before .loop .inv .1 .long), c .before .before .before .before .before .before .before .before .before .before .before .pre .1)
 
-fill-span-requires : tie.Need-fill-span-requires
-fill-span-requires c κs = let two = rows-two (c .before .before .before .before .before .before .before .before .before .args .width) (c .before .before .before .before .before .before .before .before .before .args .height) (omega (arith, c .before .if1 .left)) in (omega (arith, c .before .before .before .before .fill-bottom .ensures .long), c .before .before .before .before .before .before .before .before .before .pre .1)
+loop-less : tie.Need-loop-less Inv-loop μ-loop
+loop-less c = let some = rows-some (c .before .before .before .before .before .before .before .before .before .before .before .before .before .before .args .width) (c .before .before .before .before .before .before .before .before .before .before .before .before .before .before .args .height) (omega arith) in let less = start-before (c .before .before .before .before .before .before .before .before .before .before .before .before .before .before .args .width) (c .before .before .before .before .before .before .before .before .before .before .before .before .before .before .args .width * c .before .before .before .before .before .before .before .before .before .before .before .before .before .before .args .height) (c .before .before .before .before .before .before .loop .end) (omega arith) some (c .before .before .before .before .before .loop-test .taken) in omega (arith, c .before .before .before .before .span-start .ensures)
 
-fill-span-requires-2 : tie.Need-fill-span-requires-2
-fill-span-requires-2 c κs = let two = rows-two (c .before .before .before .before .before .before .before .before .before .before .before .before .before .args .width) (c .before .before .before .before .before .before .before .before .before .before .before .before .before .args .height) (omega (arith, c .before .before .before .before .before .if1 .left)) in (omega (arith, c .before .before .before .before .before .before .before .before .fill-bottom .ensures .long, c .before .before .before .fill-span .ensures .long), c .before .before .before .before .before .before .before .before .before .before .before .before .before .pre .1)
+loop-again : tie.Need-loop-again Inv-loop μ-loop
+loop-again c = let some = rows-some (c .before .before .before .before .before .before .before .before .before .before .before .before .before .before .args .width) (c .before .before .before .before .before .before .before .before .before .before .before .before .before .before .args .height) (omega arith) in let less = start-before (c .before .before .before .before .before .before .before .before .before .before .before .before .before .before .args .width) (c .before .before .before .before .before .before .before .before .before .before .before .before .before .before .args .width * c .before .before .before .before .before .before .before .before .before .before .before .before .before .before .args .height) (c .before .before .before .before .before .before .loop .end) (omega arith) some (c .before .before .before .before .before .loop-test .taken) in let bottom = c .before .before .before .before .before .before .before .before .before .fill-bottom .ensures in (omega (arith, c .before .before .before .before .span-start .ensures), rows-more (lentHall (c .before .before .before .before .before .before .before .before .before .before .before .before .before .before .args .width) (c .before .before .before .before .before .before .before .before .before .before .before .before .before .before .args .height) (c .before .before .before .before .before .before .before .before .before .before .before .before .before .before .args .hall .now)) (c .before .before .before .before .before .before .before .before .before .before .before .before .before .before .args .width * c .before .before .before .before .before .before .before .before .before .before .before .before .before .before .args .height) (c .before .before .before .before .before .before .before .before .before .before .before .before .before .before .args .base) (c .before .before .before .before .span-start .result) (c .before .before .before .before .before .before .loop .end) (c .before .before .before .before .before .before .before .before .before .fill-bottom .result) (c .before .before .before .before .before .before .before .before .before .fill-bottom .last .1 .1 .1 .1 .0) (c .before .before .before .before .before .before .loop .layers) (c .before .before .fill-span .last .1 .1 .1 .1 .1 .1 .1 .0) (bottom .within) (c .before .before .before .before .before .before .loop .inv .1) (c .before .before .fill-span .ensures) (omega (arith, c .before .before .before .before .span-start .ensures)) (c .before .before .before .before .before .before .loop .inv .0))
 
-same-length-2 : tie.Need-same-length-2
-same-length-2 c = search needs
+same-length : tie.Need-same-length Inv-loop μ-loop
+same-length c = c .before .loop .inv .1 .long ∙ c .before .before .before .before .fill-bottom .ensures .made .long
 
-returns-2 : tie.Need-returns-2
-returns-2 c = rows-joined (c .before .before .before .before .before .before .before .before .before .before .before .before .before .before .before .before .args .width) (c .before .before .before .before .before .before .before .before .before .before .before .before .before .before .before .before .args .height) (c .before .before .before .before .before .before .before .before .before .before .before .before .before .before .before .before .args .hall .now) (c .before .before .before .before .before .before .before .before .before .before .before .before .before .before .before .before .args .width * c .before .before .before .before .before .before .before .before .before .before .before .before .before .before .before .before .args .height) (c .before .before .before .before .before .before .before .before .before .before .before .before .before .before .before .before .args .base) (c .before .before .before .before .before .before .before .before .before .before .before .before .before .before .before .before .args .layers .now) (c .before .before .before .before .before .before .before .before .before .before .before .fill-bottom .last .1 .1 .1 .1 .1 .0) (c .before .before .before .before .before .before .fill-span .last .1 .1 .1 .1 .1 .1 .1 .0) (c .before .before .fill-span2 .last .1 .1 .1 .1 .1 .1 .1 .0) (omega (arith, c .before .before .before .before .before .before .before .before .if1 .left)) (c .before .before .before .before .before .before .before .before .before .before .before .fill-bottom .ensures) (c .before .before .before .before .before .before .fill-span .ensures) (c .before .before .fill-span2 .ensures)
+returns : tie.Need-returns Inv-loop μ-loop
+returns c = filled-all (c .before .before .before .before .before .before .before .before .before .args .width) (c .before .before .before .before .before .before .before .before .before .args .height) (c .before .before .before .before .before .before .before .before .before .args .hall .now) (c .before .before .before .before .before .before .before .before .before .args .base) (c .before .before .before .before .before .before .before .before .before .args .layers .now) (c .before .before .before .before .fill-bottom .last .1 .1 .1 .1 .0) (c .before .loop .layers) (c .before .before .before .before .fill-bottom .result) (c .before .loop .end) (c .before .before .before .before .fill-bottom .ensures) (c .before .loop .inv .1) (omega arith)
 
 pub fill-rows-spec : {M : Type 1} → statement M
 fill-rows-spec =
     tie.close
     (tie.spec
+    Inv-loop
+    μ-loop
     fill-bottom-requires
-    same-length
-    returns
-    mul-fill-span
-    sub-fill-span
+    loop-holds
+    mul-span-start
+    span-start-requires
     fill-span-requires
-    fill-span-requires-2
-    same-length-2
-    returns-2)
+    loop-less
+    loop-again
+    same-length
+    returns)
