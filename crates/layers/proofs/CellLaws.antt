@@ -13,12 +13,12 @@ use lib.ListN.{getD}
 use lib.Arith.{digits-lt, digits-div, digits-mod}
 use borrow.Author.Tests.{eq-eqb, ne-eqb, eqb-false}
 use Rattle.lists.specs.Lists.{range, each}
+use Rattle.lists.proofs.Members.{member-each, member-range}
 use Rattle.hall.specs.Hall.{Hall, isOpen}
 use Rattle.hall.specs.Moves.{landing, moveCount, reach, reachFrom}
 use Rattle.hall.specs.Landing.{landed}
 use Rattle.hall.specs.declared.Landing.{Landing}
 use Rattle.hall.specs.declared.Landing.the-variants.{Off, Cell}
-use Rattle.hall.proofs.Lists.{member-each, member-range}
 use Rattle.hall.proofs.Reach.{reach-inside}
 use Rattle.routes.specs.Route.{stepCost}
 use Rattle.layers.specs.Layers.{crossingStarts}

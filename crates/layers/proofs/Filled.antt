@@ -10,9 +10,9 @@ use mathlib.Core.List.{List, [], _∷_, map, List·Memᴰ, List·Memᴰ·head, L
 use lib.Dec.{eqb}
 use lib.ListN.{getD}
 use Rattle.lists.specs.Lists.{range}
+use Rattle.lists.proofs.Members.{each-member, member-each}
 use Rattle.hall.specs.Hall.{Hall, size}
 use Rattle.hall.specs.Moves.{landing, moveCount, reach, reachFrom}
-use Rattle.hall.proofs.Lists.{each-member, member-each}
 use Rattle.hall.proofs.Reach.{reach-inside}
 use Rattle.routes.specs.Bars.{mayStand, mayTurn}
 use Rattle.routes.specs.Best.{bestWay}

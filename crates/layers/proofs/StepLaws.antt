@@ -7,18 +7,17 @@ use mathlib.Core.List.{List, [], _++_}
 use lib.ListN.{getD}
 use borrow.Author.Tests.{eq-eqb, ne-eqb}
 use Rattle.lists.specs.Lists.{range, only, keep, anyOf, each}
+use Rattle.lists.proofs.Ranges.{range-next, range-done, keep-append}
 use Rattle.hall.specs.Moves.{landing, moveCount, reachFrom}
 use Rattle.hall.specs.Landing.{landed}
 use Rattle.hall.specs.declared.Landing.{Landing}
 use Rattle.hall.specs.declared.Landing.the-variants.{Off, Cell}
-use Rattle.hall.proofs.Passing.{range-next, range-done}
 use Rattle.routes.specs.Bars.{barsFor, barsWay}
 use Rattle.routes.specs.declared.Bar.{Bar}
 use Rattle.records.specs.Columns.{chainOf}
 use Rattle.marks.specs.Marks.{boundBy}
 use Rattle.layers.specs.Fill.{levelIn}
 use Rattle.layers.specs.Write.{mayGo, goesTo, goneTo}
-use Rattle.layers.proofs.Turns.{keep-append}
 
 -- ---- one way
 

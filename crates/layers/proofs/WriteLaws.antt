@@ -15,7 +15,8 @@ use lib.ListN.{length, getD, take, set, length-set, drop-of-length-le}
 use lib.Seq.{take-suc-set, set-split}
 use borrow.Author.Tests.{le-leb, eqb-true, eqb-false}
 use Rattle.lists.specs.Lists.{only, keep, anyOf}
-use Rattle.lists.proofs.Members.{keep-has}
+use Rattle.lists.proofs.Members.{keep-member}
+use Rattle.lists.proofs.Ranges.{keep-append, each-same}
 use Rattle.hall.specs.Hall.{Hall, size}
 use Rattle.hall.specs.Moves.{landing, moveCount, reach, reachFrom}
 use Rattle.hall.proofs.Reach.{reach-inside}
@@ -28,7 +29,7 @@ use Rattle.marks.specs.Marks.{markOf}
 use Rattle.layers.specs.Layers.{levelOf, wayFrom, routeFrom, writtenRoute, byteAt, Filled}
 use Rattle.layers.specs.Fill.{levelIn, halves, odd, unless, turnsBy}
 use Rattle.layers.specs.Write.{mayGo, goesTo, goneTo}
-use Rattle.layers.proofs.Turns.{keep-append, each-range, zero-unset, mark-bars, mark-turns}
+use Rattle.layers.proofs.Turns.{zero-unset, mark-bars, mark-turns}
 use Rattle.layers.proofs.Levels.{Short, level-most, short-level, stand-unbarred, best-first, way-ends, way-stands, way-goes-on}
 use Rattle.layers.proofs.Filled.{read-level}
 use Rattle.layers.proofs.CellLaws.{crossing-one}
@@ -68,7 +69,7 @@ asked-once : (p q : ℕ → Bool) (b : Bool) (ws : List ℕ) → (b ≡ true) �
 asked-once p q b ws (inl e) = rw e (sym (keep-both p (λ w. not (q w)) ws))
 asked-once p q b ws (inr e) =
     keep-same (λ w. p w && not (b && q w)) (λ w. p w && not (q w)) ws
-    (λ w m. ap (λ x. p w && x) (unasked b (q w) (keep-has (λ w. not (q w)) ws w (subst (λ xs. List·Memᴰ w xs) e m) .0)))
+    (λ w m. ap (λ x. p w && x) (unasked b (q w) (keep-member (λ w. not (q w)) ws (subst (λ xs. List·Memᴰ w xs) e m) .1)))
     ∙ sym (keep-both p (λ w. not (q w)) ws)
 
 -- ---- no mark, no bar
@@ -76,7 +77,7 @@ asked-once p q b ws (inr e) =
 unmarked-turns : (hall : Hall) (v : ℕ) → turnsBy (hall .width) (hall .height) (v / hall .width) (v % hall .width) 0 ≡ reach hall v
 unfolding turnsBy reach reachFrom unless
 unmarked-turns hall v =
-    each-range (λ m. unless (odd (halves m 0)) (landing (hall .width) (hall .height) (v / hall .width) (v % hall .width) m)) (landing (hall .width) (hall .height) (v / hall .width) (v % hall .width)) 0 moveCount
+    each-same (λ m. unless (odd (halves m 0)) (landing (hall .width) (hall .height) (v / hall .width) (v % hall .width) m)) (landing (hall .width) (hall .height) (v / hall .width) (v % hall .width)) 0 moveCount
     (λ m _ _. rw (zero-unset m))
 
 step-back : (b : Bool) (c : ℕ) → stepCost b c - 1 ≡ c
