@@ -4,7 +4,6 @@ use book::BookVerdict;
 use job::Fault;
 use job::Told;
 ghost use mathlib.Core.Path.{_≡_};
-ghost use lib.ListN.{length};
 ghost use Rattle.job.specs.Team.{jobOf};
 ghost use Rattle.carriers.specs.Lent.{bytesTeam};
 ghost use Rattle.routes.specs.Check.{routeVerdict, routeTold};
