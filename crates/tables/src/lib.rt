@@ -13,7 +13,7 @@ ghost use Rattle.tables.specs.Tables.{zeroed};
 
 // 'Record columns, 16-bit': the parent, the kind of bar, the barred carrier, three numbers of the bar, the sum, and whether
 // the node is open. Column after column, each with an entry for each of the N nodes.
-const COLUMNS: usize = 8;
+pub const COLUMNS: usize = 8;
 
 const IS_OPEN: u16 = 1;
 
