@@ -8,23 +8,20 @@ use lib.ListN.{length, take, drop}
 use Rattle.book.specs.Book.{bookNumber, askedVerdict, ifGood, entryOffset, entryLength, entryBody, bodyOf}
 use Rattle.book.specs.declared.BookVerdict.{BookVerdict}
 use Rattle.book.specs.declared.BookVerdict.the-variants.{Good}
-use Rattle.book.proofs.Bodies.{good-consecutive, body-length}
-use Rattle.book.proofs.Verdicts.{asked-good, asked-three, if-refused, refused-empty}
+use Rattle.book.proofs.Bodies.{good-consecutive}
+use Rattle.book.proofs.Lengths.{asked-length}
+use Rattle.book.proofs.Verdicts.{asked-good, asked-three, if-refused, refused-empty, good-body}
 use Rattle.adfulmise.specs.Lent.{written, placeValues}
 use Rattle.adfulmise.specs.Post.{offsetOf, Read}
 
-body-is : (book : List ℕ) (kind : ℕ) → askedVerdict book kind ≡ Good → bodyOf book kind ≡ entryBody book kind
-unfolding bodyOf ifGood
-body-is book kind good = rw good
-
 -- a body handed back is as long as its entry says
-pub handed-length : (book : List ℕ) (kind : ℕ) → askedVerdict book kind ≡ Good → length (bodyOf book kind) ≡ entryLength book kind
+handed-length : (book : List ℕ) (kind : ℕ) → askedVerdict book kind ≡ Good → length (bodyOf book kind) ≡ entryLength book kind
 handed-length book kind good =
     let g = asked-good book kind good in
-    ap length (body-is book kind good) ∙ body-length book (good-consecutive book (g .0)) kind (g .1) (g .2)
+    asked-length book (g .0) kind (g .1) (g .2)
 
 -- the first two bodies of a book of which some kind is not refused
-pub first-lengths : (book : List ℕ) (kind : ℕ) → askedVerdict book kind ≡ Good → (length (bodyOf book 1) ≡ entryLength book 1) × (length (bodyOf book 2) ≡ entryLength book 2)
+first-lengths : (book : List ℕ) (kind : ℕ) → askedVerdict book kind ≡ Good → (length (bodyOf book 1) ≡ entryLength book 1) × (length (bodyOf book 2) ≡ entryLength book 2)
 first-lengths book kind good =
     let g = asked-good book kind good in
     (handed-length book 1 (asked-three book 1 (g .0) (omega arith) (omega arith)), handed-length book 2 (asked-three book 2 (g .0) (omega arith) (omega arith)))
@@ -57,22 +54,22 @@ lengths-inside book kind good =
 
 -- ---- the place of a body
 
-pub place-good : (book : List ℕ) (kind : ℕ) → askedVerdict book kind ≡ Good → offsetOf book kind ≡ entryOffset book kind
+place-good : (book : List ℕ) (kind : ℕ) → askedVerdict book kind ≡ Good → offsetOf book kind ≡ entryOffset book kind
 unfolding offsetOf ifGood
 place-good book kind good = rw good
 
-pub place-refused : (book : List ℕ) (kind : ℕ) → (askedVerdict book kind ≡ Good → ⊥) → offsetOf book kind ≡ 0
+place-refused : (book : List ℕ) (kind : ℕ) → (askedVerdict book kind ≡ Good → ⊥) → offsetOf book kind ≡ 0
 unfolding offsetOf
 place-refused book kind no-good = if-refused (askedVerdict book kind) (entryOffset book kind) 0 no-good
 
-pub body-good : (book : List ℕ) (kind : ℕ) → askedVerdict book kind ≡ Good → take (length (bodyOf book kind)) (drop (offsetOf book kind) book) ≡ bodyOf book kind
+body-good : (book : List ℕ) (kind : ℕ) → askedVerdict book kind ≡ Good → take (length (bodyOf book kind)) (drop (offsetOf book kind) book) ≡ bodyOf book kind
 unfolding entryBody
 body-good book kind good =
     ap (λ (n : ℕ). take n (drop (offsetOf book kind) book)) (handed-length book kind good)
     ∙ ap (λ (o : ℕ). take (entryLength book kind) (drop o book)) (place-good book kind good)
-    ∙ sym (body-is book kind good)
+    ∙ sym (good-body book kind good)
 
-pub body-refused : (book : List ℕ) (kind : ℕ) → (askedVerdict book kind ≡ Good → ⊥) → take (length (bodyOf book kind)) (drop (offsetOf book kind) book) ≡ bodyOf book kind
+body-refused : (book : List ℕ) (kind : ℕ) → (askedVerdict book kind ≡ Good → ⊥) → take (length (bodyOf book kind)) (drop (offsetOf book kind) book) ≡ bodyOf book kind
 body-refused book kind no-good = rw (refused-empty book kind no-good)
 
 pub read-good : {after : List ℕ} (book : List ℕ) (kind : ℕ) (before : List ℕ) (o : ℕ) (part : List ℕ)

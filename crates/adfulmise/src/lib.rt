@@ -4,7 +4,6 @@ use book::BookVerdict;
 use job::Fault;
 use job::Told;
 ghost use mathlib.Core.Path.{_≡_};
-ghost use lib.ListN.{length};
 ghost use Rattle.job.specs.Team.{jobOf};
 ghost use Rattle.carriers.specs.Lent.{bytesTeam};
 ghost use Rattle.routes.specs.Check.{routeVerdict, routeTold};
@@ -19,13 +18,6 @@ const TOLD_LENGTH: usize = 5;
 const FAULT_LENGTH: usize = 6;
 
 const PLACE_LENGTH: usize = 2;
-
-// Where the first body of a book begins.
-const CONTENTS_LENGTH: usize = 16;
-
-const HALL: u8 = 1;
-
-const CARRIERS: u8 = 2;
 
 // The planner's numbers, where there is room for all of them.
 fn write_told(values: Told, told: &mut [usize])
@@ -150,14 +142,14 @@ fn body_offset(book: &[u8], kind: u8) -> usize
     requires { ⌜ askedVerdict (now book) kind ≡ BookVerdict.Good ⌝ }
     ensures { λ r. ⌜ r ≡ entryOffset (now (book .entry)) kind ⌝ }
 {
-    if kind == HALL {
-        return CONTENTS_LENGTH;
+    if kind == book::HALL {
+        return book::CONTENTS_LENGTH;
     }
-    let carriers = CONTENTS_LENGTH + book::body(book, HALL).len();
-    if kind == CARRIERS {
+    let carriers = book::CONTENTS_LENGTH + book::body(book, book::HALL).len();
+    if kind == book::CARRIERS {
         return carriers;
     }
-    carriers + book::body(book, CARRIERS).len()
+    carriers + book::body(book, book::CARRIERS).len()
 }
 
 // The book reader: `place` becomes the offset and the length in the book of the body of that kind, 0 and 0 with a refusal.

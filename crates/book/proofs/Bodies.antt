@@ -56,7 +56,7 @@ part-at : (book : List ℕ) (a b n m : ℕ) → a ≡ b → n ≡ m → take n (
 part-at book a b n m e f = cc
 
 module _ (book : List ℕ) (s : Consecutive book) where
-  pub body-inside : (n : ℕ) → 1 ≤ n → n ≤ 3 → entryOffset book n + entryLength book n ≤ length book
+  body-inside : (n : ℕ) → 1 ≤ n → n ≤ 3 → entryOffset book n + entryLength book n ≤ length book
   body-inside zero l h = absurd (omega arith)
   body-inside (suc zero) l h = omega arith
   body-inside (suc (suc zero)) l h = omega arith
@@ -86,7 +86,7 @@ module _ (book : List ℕ) (s : Consecutive book) where
 -- ---- the bodies of a good book
 
 -- 'from byte 16 to the end': the three lengths are what the contents leave
-pub lengths-sum : (book : List ℕ) → bookVerdict book ≡ Good → entryLength book 1 + entryLength book 2 + entryLength book 3 ≡ length book - 16
+lengths-sum : (book : List ℕ) → bookVerdict book ≡ Good → entryLength book 1 + entryLength book 2 + entryLength book 3 ≡ length book - 16
 lengths-sum book e = let s = good-consecutive book e in omega arith
 
 -- the body asked for lies inside the book, and its part is what is handed back
@@ -102,21 +102,21 @@ body-handed book kind o e g p q =
     part-at book o (entryOffset book kind) (e - o) (entryLength book kind) p (omega arith) ∙ sym (good-body book kind g)
 
 module _ (book : List ℕ) (e : bookVerdict book ≡ Good) where
-  pub body-hall : bodyOf book 1 ≡ take (entryLength book 1) (drop 16 book)
+  body-hall : bodyOf book 1 ≡ take (entryLength book 1) (drop 16 book)
   unfolding entryBody
   body-hall =
       let s = good-consecutive book e in
       good-body book 1 (asked-three book 1 e (omega arith) (omega arith))
       ∙ part-at book (entryOffset book 1) 16 (entryLength book 1) (entryLength book 1) (s .first) refl
 
-  pub body-carriers : bodyOf book 2 ≡ take (entryLength book 2) (drop (16 + entryLength book 1) book)
+  body-carriers : bodyOf book 2 ≡ take (entryLength book 2) (drop (16 + entryLength book 1) book)
   unfolding entryBody
   body-carriers =
       let s = good-consecutive book e in
       good-body book 2 (asked-three book 2 e (omega arith) (omega arith))
       ∙ part-at book (entryOffset book 2) (16 + entryLength book 1) (entryLength book 2) (entryLength book 2) (omega arith) refl
 
-  pub body-limits : bodyOf book 3 ≡ take (entryLength book 3) (drop (16 + entryLength book 1 + entryLength book 2) book)
+  body-limits : bodyOf book 3 ≡ take (entryLength book 3) (drop (16 + entryLength book 1 + entryLength book 2) book)
   unfolding entryBody
   body-limits =
       let s = good-consecutive book e in

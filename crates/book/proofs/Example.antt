@@ -23,15 +23,15 @@ pub printed-good : bookVerdict printedBook ≡ Good
 unfolding bookVerdict refuseIf noContents wrongKinds wrongBodies wrongLengths entryKind entryOffset entryLength entryBody lowHigh
 printed-good = refl
 
-pub printed-hall : bodyOf printedBook 1 ≡ 3 ∷ 3 ∷ nine
+printed-hall : bodyOf printedBook 1 ≡ 3 ∷ 3 ∷ nine
 unfolding bodyOf askedVerdict ifGood noKind bookVerdict refuseIf noContents wrongKinds wrongBodies wrongLengths entryKind entryOffset entryLength entryBody lowHigh
 printed-hall = refl
 
-pub printed-carriers : bodyOf printedBook 2 ≡ 3 ∷ 5 ∷ 1 ∷ 7 ∷ []
+printed-carriers : bodyOf printedBook 2 ≡ 3 ∷ 5 ∷ 1 ∷ 7 ∷ []
 unfolding bodyOf askedVerdict ifGood noKind bookVerdict refuseIf noContents wrongKinds wrongBodies wrongLengths entryKind entryOffset entryLength entryBody lowHigh
 printed-carriers = refl
 
-pub printed-limits : bodyOf printedBook 3 ≡ 0 ∷ 4 ∷ []
+printed-limits : bodyOf printedBook 3 ≡ 0 ∷ 4 ∷ []
 unfolding bodyOf askedVerdict ifGood noKind bookVerdict refuseIf noContents wrongKinds wrongBodies wrongLengths entryKind entryOffset entryLength entryBody lowHigh
 printed-limits = refl
 

@@ -8,18 +8,19 @@ use mathlib.Core.List.{List}
 use borrow.Author.Tests.{ltb-false, eqb-true, eqb-false, not-false}
 use lib.Dec.{eqb}
 use lib.ListN.{length, length-drop}
+use Rattle.lists.proofs.Tests.{or-fails}
 use Rattle.book.specs.declared.BookVerdict.the-variants.{Good}
 use Rattle.book.specs.Book.{entryLength, entryBody, wrongHall, wrongCarriers, wrongLimits, wrongLengths, bookVerdict, bodyOf}
 use Rattle.book.specs.Parts.{hallIn, countIn}
-use Rattle.book.proofs.Verdicts.{neither, good-passed, asked-three, good-body}
+use Rattle.book.proofs.Verdicts.{good-passed, asked-three, good-body}
 use Rattle.book.proofs.Bodies.{good-consecutive, body-length}
 
 lengths-passed : (book : List ℕ) → wrongLengths book ≡ false
     → (wrongHall (entryBody book 1) ≡ false) × (wrongCarriers (entryBody book 2) ≡ false) × (wrongLimits (entryBody book 3) ≡ false)
 unfolding wrongLengths
 lengths-passed book e =
-    let h = neither (wrongHall (entryBody book 1) || wrongCarriers (entryBody book 2)) (wrongLimits (entryBody book 3)) e in
-    let k = neither (wrongHall (entryBody book 1)) (wrongCarriers (entryBody book 2)) (h .0) in
+    let h = or-fails (wrongHall (entryBody book 1) || wrongCarriers (entryBody book 2)) (wrongLimits (entryBody book 3)) e in
+    let k = or-fails (wrongHall (entryBody book 1)) (wrongCarriers (entryBody book 2)) (h .0) in
     (k .0, k .1, h .1)
 
 module _ (book : List ℕ) (e : bookVerdict book ≡ Good) where

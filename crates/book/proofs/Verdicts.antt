@@ -3,13 +3,14 @@
 use Prim.Native.Nat.{ℕ, _≤_}
 use native.Mathlib.Omega.{arith}
 use mathlib.Core.Path.{_≡_, refl, sym, subst, _∙_}
-use mathlib.Core.Bool.{Bool, true, false, not, _||_}
+use mathlib.Core.Bool.{Bool, true, false, not}
 use mathlib.Core.List.{List, [], _∷_}
 use borrow.Author.Tests.{ltb-false, le-ltb}
 use denote.Enum.Declared.{tagOf}
 use types.Run.{OneOf, miss}
 use lib.Dec.{ltb, eqb}
 use lib.ListN.{length, getD}
+use Rattle.lists.proofs.Tests.{or-fails}
 use Rattle.book.specs.declared.BookVerdict.{BookVerdict}
 use Rattle.book.specs.declared.BookVerdict.the-variants.{Good, NoContents, WrongKinds, WrongBodies, WrongLengths, NoKind}
 use Rattle.book.specs.Book.{noContents, wrongKinds, wrongBodies, wrongLengths, refuseIf, bookVerdict, noKind, ifGood, askedVerdict, entryBody, bodyOf}
@@ -29,11 +30,6 @@ if-refused WrongBodies go stop n = refl
 if-refused WrongLengths go stop n = refl
 if-refused NoKind go stop n = refl
 
--- neither of two tests
-pub neither : (a b : Bool) → a || b ≡ false → (a ≡ false) × (b ≡ false)
-neither true b e = let z : _≡_ {A = ℕ} 0 1 = cc in absurd (omega arith)
-neither false b e = (refl, e)
-
 -- ---- a good book
 
 all-passed : (a b c d : Bool)
@@ -52,7 +48,7 @@ good-passed book e = all-passed (noContents book) (wrongKinds book) (wrongBodies
 
 pub good-long : (book : List ℕ) → bookVerdict book ≡ Good → 16 ≤ length book
 unfolding noContents
-good-long book e = ltb-false (length book) 16 (neither (ltb (length book) 16) (not (eqb (getD book 0 0) 3)) (good-passed book e .0) .0)
+good-long book e = ltb-false (length book) 16 (or-fails (ltb (length book) 16) (not (eqb (getD book 0 0) 3)) (good-passed book e .0) .0)
 
 -- ---- the answer for a kind
 
@@ -69,7 +65,7 @@ kind-passed NoKind b e = let z : _≡_ {A = ℕ} 0 1 = cc in absurd (omega arith
 kind-between : (kind : ℕ) → noKind kind ≡ false → (1 ≤ kind) × (kind ≤ 3)
 unfolding noKind
 kind-between kind e =
-    let h = neither (ltb kind 1) (ltb 3 kind) e in
+    let h = or-fails (ltb kind 1) (ltb 3 kind) e in
     (ltb-false kind 1 (h .0), ltb-false 3 kind (h .1))
 
 pub asked-good : (book : List ℕ) (kind : ℕ) → askedVerdict book kind ≡ Good → (bookVerdict book ≡ Good) × (1 ≤ kind) × (kind ≤ 3)

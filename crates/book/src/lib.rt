@@ -17,7 +17,7 @@ pub enum BookVerdict {
 }
 
 // 'Contents first, then bodies. Byte 0 is 3. Three entries of 5 bytes follow'
-const CONTENTS_LENGTH: usize = 16;
+pub const CONTENTS_LENGTH: usize = 16;
 
 const ENTRY_COUNT: u8 = 3;
 
@@ -29,11 +29,11 @@ const OFFSET_AT: usize = 1;
 const LENGTH_AT: usize = 3;
 
 // 'Kinds are 1, 2, 3 in that order.'
-const HALL: u8 = 1;
+pub const HALL: u8 = 1;
 
-const CARRIERS: u8 = 2;
+pub const CARRIERS: u8 = 2;
 
-const LIMITS: u8 = 3;
+pub const LIMITS: u8 = 3;
 
 // width and height; k and H
 const HALL_LEAST: usize = 2;

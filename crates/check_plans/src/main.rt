@@ -1,107 +1,16 @@
 // Plans of document 01's worked jobs, and wrong ones, through both checks. For each plan and check one line: the plan's name, the
 // check, then number, carrier, other, step, distance, and 1 for a swap. 'Untold numbers are 0.'
-use clashes::Clash;
-use clashes::MeetingVerdict;
+use job::Fault;
 use job::Team;
-use job::Verdict;
-use routes::RouteVerdict;
 
 const STDOUT: i32 = 1;
-
-// The numbers of document 01 for a verdict.
-struct Told {
-    number: usize,
-    carrier: usize,
-    other: usize,
-    step: usize,
-    distance: usize,
-    swap: usize,
-}
-
-fn named(number: usize, carrier: usize, other: usize) -> Told {
-    Told {
-        number,
-        carrier,
-        other,
-        step: 0,
-        distance: 0,
-        swap: 0,
-    }
-}
-
-fn refusal(v: Verdict) -> Told {
-    match v {
-        Verdict::Accepted => named(0, 0, 0),
-        Verdict::WrongGrid => named(1, 0, 0),
-        Verdict::WrongBytes => named(2, 0, 0),
-        Verdict::WrongLimits => named(3, 0, 0),
-        Verdict::WrongCount => named(4, 0, 0),
-        Verdict::WrongEnds { carrier } => named(5, carrier, 0),
-        Verdict::SharedEnds { carrier, other } => named(6, carrier, other),
-    }
-}
-
-fn route_told(v: RouteVerdict) -> Told {
-    match v {
-        RouteVerdict::Lawful => named(0, 0, 0),
-        RouteVerdict::Refused(r) => refusal(r),
-        RouteVerdict::Short => named(7, 0, 0),
-        RouteVerdict::Wrong { carrier, step } => Told {
-            number: 21,
-            carrier,
-            other: 0,
-            step,
-            distance: 0,
-            swap: 0,
-        },
-    }
-}
-
-fn clash_told(c: Clash) -> Told {
-    match c {
-        Clash::Clear => named(0, 0, 0),
-        Clash::Meeting {
-            first,
-            second,
-            step,
-            distance,
-        } => Told {
-            number: 22,
-            carrier: first,
-            other: second,
-            step,
-            distance,
-            swap: 0,
-        },
-        Clash::Swap {
-            first,
-            second,
-            step,
-        } => Told {
-            number: 22,
-            carrier: first,
-            other: second,
-            step,
-            distance: 0,
-            swap: 1,
-        },
-    }
-}
-
-fn meeting_told(v: MeetingVerdict) -> Told {
-    match v {
-        MeetingVerdict::Refused(r) => refusal(r),
-        MeetingVerdict::Short => named(7, 0, 0),
-        MeetingVerdict::Compared(c) => clash_told(c),
-    }
-}
 
 fn print_number(n: usize) {
     io::write_all(STDOUT, b" ");
     io::print_decimal(STDOUT, n as u64);
 }
 
-fn print_line(name: &[u8], check: &[u8], t: Told) {
+fn print_line(name: &[u8], check: &[u8], t: Fault) {
     io::write_all(STDOUT, name);
     io::write_all(STDOUT, check);
     print_number(t.number);
@@ -125,9 +34,9 @@ fn both(
     plan: &[u8],
 ) {
     let routes = checks::check_routes(hall, width, height, team, k, h, plan);
-    print_line(name, b": routes", route_told(routes));
+    print_line(name, b": routes", told::route_told(routes));
     let meetings = checks::check_meetings(hall, width, height, team, k, h, plan);
-    print_line(name, b": meetings", meeting_told(meetings));
+    print_line(name, b": meetings", told::meeting_told(meetings));
 }
 
 // The same on open floors, 3 by 3 with H 4 and 3 by 1; and a job that is refused, whatever the plan.

@@ -9,12 +9,14 @@ use mathlib.Core.Bool.{Bool, true, false, not, _&&_, _||_}
 use mathlib.Core.List.{List, map, List·Memᴰ}
 use mathlib.Core.Option.{Option, none, some}
 use borrow.Author.Tests.{le-ltb, ltb-false}
-use lib.Dec.{eqb, ltb}
-use lib.ListN.{length, take, drop, length-take, length-drop}
+use lib.Dec.{T, eqb, ltb}
+use lib.ListN.{length, drop, length-take, length-drop}
 use lib.Seq.{getD-take, getD-drop}
-use Rattle.lists.specs.Lists.{range, each}
-use Rattle.lists.proofs.Bools.{is-false, of-false}
-use Rattle.lists.proofs.Members.{FirstFact, first-fact, has-each, each-has, has-map, map-has, has-range, range-has}
+use Rattle.lists.specs.Lists.{range, firstOf}
+use Rattle.lists.proofs.Tests.{is-false, of-false}
+use Rattle.lists.proofs.Every.{every-member, member-every}
+use Rattle.lists.proofs.Members.{member-each, each-member, member-map, map-member, member-range, range-member}
+use Rattle.lists.proofs.Passing.{FirstFact, first-fact}
 use Rattle.job.specs.Job.{Job, slipOf, mostSlip, planLength, planCell}
 use Rattle.job.specs.Verdict.{IsAccepted, judge, ifAccepted}
 use Rattle.job.specs.declared.Verdict.{Verdict}
@@ -82,32 +84,41 @@ module _ (job : Job) (cell : ℕ → ℕ → ℕ) where
   listed : (i t : ℕ) → i < job .count → t ≤ job .horizon → List·Memᴰ (record { carrier = i; step = t }) (places (job .count) (job .horizon))
   unfolding places
   listed i t li lt =
-      has-each row i (range 0 (job .count)) (record { carrier = i; step = t }) (has-range 0 (job .count) i (omega arith) (omega arith))
-      (has-map (λ t. record { carrier = i; step = t }) t (range 0 (job .horizon + 1)) (has-range 0 (job .horizon + 1) t (omega arith) (omega arith)))
+      member-each row (range 0 (job .count)) (member-range {x = i} 0 (job .count) (omega arith) (omega arith))
+      (member-map (λ t. record { carrier = i; step = t }) (range 0 (job .horizon + 1)) (member-range {x = t} 0 (job .horizon + 1) (omega arith) (omega arith)))
 
   placed : (p : Place) → List·Memᴰ p (places (job .count) (job .horizon)) → (p .carrier < job .count) × (p .step ≤ job .horizon)
   unfolding places
   placed p m =
-      let (i, a, b) = each-has row (range 0 (job .count)) p m in
-      let (t, c, e) = map-has (λ t. record { carrier = i; step = t }) p (range 0 (job .horizon + 1)) b in
-      let x = range-has 0 (job .count) i a in
-      let y = range-has 0 (job .horizon + 1) t c in
+      let (i, a, b) = each-member row (range 0 (job .count)) m in
+      let (t, c, e) = map-member (λ t. record { carrier = i; step = t }) (range 0 (job .horizon + 1)) b in
+      let x = range-member 0 (job .count) a in
+      let y = range-member 0 (job .horizon + 1) c in
       let f : p .carrier ≡ i = ap (λ (q : Place). q .carrier) e in
       let g : p .step ≡ t = ap (λ (q : Place). q .step) e in
       (omega arith, omega arith)
 
+  -- what the first wrong place tells, or that there is none
+  abbrev WrongFact : Option Place → Type 0
+  WrongFact = FirstFact wrong (λ p. (p .carrier < job .count) × (p .step ≤ job .horizon)) (places (job .count) (job .horizon))
+
+  wrong-fact : WrongFact (firstOf wrong (places (job .count) (job .horizon)))
+  wrong-fact =
+      first-fact wrong (λ p. (p .carrier < job .count) × (p .step ≤ job .horizon)) (places (job .count) (job .horizon))
+      (member-every (λ p. (p .carrier < job .count) × (p .step ≤ job .horizon)) (places (job .count) (job .horizon)) placed)
+
   unfoldable NoneWrong : Type 0
   NoneWrong = (i t : ℕ) → i < job .count → t ≤ job .horizon → wrongAt job i (cell i) t ≡ false
 
-  says-none : (o : Option Place) → FirstFact wrong (places (job .count) (job .horizon)) o → routeTold (placeVerdict o) .number ≡ 0 → NoneWrong
+  says-none : (o : Option Place) → WrongFact o → routeTold (placeVerdict o) .number ≡ 0 → NoneWrong
   unfolding FirstFact placeVerdict NoneWrong
-  says-none none fact e = λ i t li lt. is-false (fact (record { carrier = i; step = t }) (listed i t li lt))
+  says-none none fact e = λ i t li lt. is-false (every-member (λ p. T (wrong p) → ⊥) (places (job .count) (job .horizon)) fact (listed i t li lt))
   says-none (some p) fact e = absurd (let z : _≡_ {A = ℕ} 21 0 = e in omega arith)
 
-  none-says : (o : Option Place) → FirstFact wrong (places (job .count) (job .horizon)) o → NoneWrong → placeVerdict o ≡ LawfulPlan
+  none-says : (o : Option Place) → WrongFact o → NoneWrong → placeVerdict o ≡ LawfulPlan
   unfolding FirstFact placeVerdict NoneWrong
   none-says none fact n = refl
-  none-says (some p) fact n = let (li, lt) = placed p (fact .1) in absurd (of-false (n (p .carrier) (p .step) li lt) (fact .0))
+  none-says (some p) fact n = let (li, lt) = fact .1 in absurd (of-false (n (p .carrier) (p .step) li lt) (fact .0))
 
 -- ---- the route check
 
@@ -122,11 +133,11 @@ module _ (job : Job) (plan : List ℕ) (accepted : IsAccepted job) (long : planL
   meeting-verdict = rw (accepted, compared, le-ltb (length plan) (planLength job) long)
 
   -- the routes are lawful exactly if the route check says 0
-  pub lawful-says-zero : ((i : ℕ) → i < job .count → Lawful job i (routeIn (job .horizon) plan i)) → routeVerdict job plan ≡ LawfulPlan
+  lawful-says-zero : ((i : ℕ) → i < job .count → Lawful job i (routeIn (job .horizon) plan i)) → routeVerdict job plan ≡ LawfulPlan
   unfolding firstWrongPlace NoneWrong
   lawful-says-zero law =
       route-verdict
-      ∙ none-says job (planCell job plan) (firstWrongPlace job (planCell job plan)) (first-fact (wrong job (planCell job plan)) (places (job .count) (job .horizon)))
+      ∙ none-says job (planCell job plan) (firstWrongPlace job (planCell job plan)) (wrong-fact job (planCell job plan))
       (λ i t li lt.
       sym (same-wrong job plan long i li t lt)
       ∙ right-everywhere-lawful job i (routeIn (job .horizon) plan i) accepted li .0 (law i li) .1 t lt)
@@ -135,7 +146,7 @@ module _ (job : Job) (plan : List ℕ) (accepted : IsAccepted job) (long : planL
   unfolding firstWrongPlace NoneWrong
   zero-says-lawful e i li =
       let n : NoneWrong job (planCell job plan) =
-      says-none job (planCell job plan) (firstWrongPlace job (planCell job plan)) (first-fact (wrong job (planCell job plan)) (places (job .count) (job .horizon)))
+      says-none job (planCell job plan) (firstWrongPlace job (planCell job plan)) (wrong-fact job (planCell job plan))
       (ap (λ (v : RouteVerdict). routeTold v .number) (sym route-verdict) ∙ e)
       in
       right-everywhere-lawful job i (routeIn (job .horizon) plan i) accepted li .1
@@ -158,7 +169,7 @@ module _ (job : Job) (plan : List ℕ) (accepted : IsAccepted job) (long : planL
       (clear-apart (planCell job plan) (slipOf job) (mostSlip job) (job .horizon) (job .count) slips
       (clash-clear (planClash job plan) (ap (λ (v : MeetingVerdict). meetingTold v .number) (sym meeting-verdict) ∙ e)))
 
-  pub safe-says-clear : Safe job plan → meetingVerdict job plan ≡ Compared Clear
+  safe-says-clear : Safe job plan → meetingVerdict job plan ≡ Compared Clear
   unfolding planClash
   safe-says-clear s =
       meeting-verdict

@@ -17,7 +17,7 @@ use Rattle.marks.proofs.Places.{same-from}
 use Rattle.tables.specs.State.{Sound}
 use Rattle.tables.specs.Tables.{plansLength}
 use Rattle.tables.specs.Post.{Room, BarFits, Fitting, Recorded}
-use Rattle.tables.proofs.Costs.{part-within}
+use Rattle.lists.proofs.Parts.{part-within}
 use Rattle.children.specs.declared.Task.{Task}
 use Rattle.children.specs.declared.Grown.the-variants.{Nothing, Full}
 use Rattle.children.specs.Steps.{jobOn, Ready, Kept, BarSet, ChildFact}

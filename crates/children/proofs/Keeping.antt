@@ -14,8 +14,7 @@ use Rattle.marks.specs.Marks.{SameFrom}
 use Rattle.marks.proofs.Places.{same-from}
 use Rattle.tables.specs.State.{Sound}
 use Rattle.tables.specs.Post.{Recorded}
-use Rattle.tables.proofs.Costs.{part-within}
-use Rattle.tables.proofs.Stretches.{written, written-length, written-above, paste-written}
+use Rattle.lists.proofs.Parts.{part-within, written, written-length, written-above, paste-written}
 use Rattle.children.specs.declared.Task.{Task}
 use Rattle.children.specs.Steps.{Ready}
 use Rattle.children.specs.Children.{putRoute}

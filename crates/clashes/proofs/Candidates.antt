@@ -8,11 +8,12 @@ use mathlib.Core.List.{List, map}
 use native.Mathlib.Omega.{arith}
 use lib.Dec.{T}
 use Rattle.lists.specs.Lists.{range, each, firstOf, Every}
+use Rattle.lists.proofs.Every.{every-append, append-every, every-map, map-every, every-each, each-every, every-below, below-every}
+use Rattle.lists.proofs.Passing.{FirstFact, first-fact}
 use Rattle.clashes.specs.Clash.{Meets, Swaps}
 use Rattle.clashes.specs.Chosen.{happens, overPairs, atStep, candidates}
 use Rattle.clashes.specs.declared.Clash.{Clash}
 use Rattle.clashes.specs.declared.Clash.the-variants.{Clear, Meeting, Swap}
-use Rattle.clashes.proofs.Lists.{every-append, append-every, every-map, map-every, every-each, each-every, every-below, below-every, FirstFact, first-fact}
 use Rattle.clashes.proofs.Tests.{tells-meets, tells-swaps}
 
 -- the candidates: among m carriers, no further apart than most, up to step h

@@ -8,11 +8,11 @@ use native.Mathlib.Omega.{arith}
 use native.Mathlib.Decide.{decLt, ℕ-discrete}
 use lib.Dec.{T}
 use Rattle.lists.specs.Lists.{firstOf}
+use Rattle.lists.proofs.Passing.{FirstFact}
 use Rattle.clashes.specs.Clash.{Meets, Swaps, Apart}
 use Rattle.clashes.specs.Chosen.{happens, candidates, orClear, chosen}
 use Rattle.clashes.specs.declared.Clash.{Clash}
 use Rattle.clashes.specs.declared.Clash.the-variants.{Clear, Meeting, Swap}
-use Rattle.clashes.proofs.Lists.{FirstFact}
 use Rattle.clashes.proofs.Tests.{meets-tells, swaps-tells}
 use Rattle.clashes.proofs.Candidates.{Listed, candidate-every, first-passed, meeting-passes, swap-passes}
 

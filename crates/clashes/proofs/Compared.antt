@@ -2,25 +2,17 @@
 -- and the byte of each carrier and step stands in a whole plan.
 -- Assumes nothing.
 use Prim.Native.Nat.{ℕ, _+_, _*_, _≤_, _<_}
-use mathlib.Core.Path.{_≡_, refl, sym, _∙_}
+use mathlib.Core.Path.{_≡_, sym, _∙_}
 use mathlib.Core.Bool.{Bool, true, false, not}
 use mathlib.Core.List.{List}
 use native.Mathlib.Nat.{mul-le-mul-right, suc-mul}
 use native.Mathlib.Omega.{arith}
-use lib.Dec.{T, ltb, eqb, ltb→lt, lt→ltb, eqb→eq}
+use lib.Dec.{T, ltb, eqb, ltb→lt, lt→ltb, eqb→eq, T-not, not-T}
 use borrow.Author.Tests.{eq-eqb}
-use Rattle.job.specs.Job.{Job}
-use Rattle.lists.proofs.Bools.{is-false, of-true, of-false, not-true, true-not}
+use Rattle.lists.proofs.Tests.{is-false, of-true, of-false, same-test}
 use Rattle.clashes.specs.Chosen.{meets, swaps}
-use Rattle.clashes.specs.Check.{planClash}
-use Rattle.clashes.specs.Find.{firstClash, Whole, Within}
+use Rattle.clashes.specs.Find.{Whole, Within}
 use Rattle.clashes.proofs.Tests.{meets-tells, tells-meets, swaps-tells, tells-swaps}
-
-pub same-test : (a b : Bool) → (T a → T b) → (T b → T a) → a ≡ b
-same-test true true f g = refl
-same-test true false f g = absurd (f tt)
-same-test false true f g = absurd (g tt)
-same-test false false f g = refl
 
 module _ (at : ℕ → ℕ → ℕ) (slip : ℕ → ℕ) (h i j t : ℕ) where
   -- ---- meetings
@@ -32,15 +24,15 @@ module _ (at : ℕ → ℕ → ℕ) (slip : ℕ → ℕ) (h i j t : ℕ) where
     module _ (near : d ≤ slip i) (inside : t + d ≤ h) (same : at i t ≡ at j (t + d)) where
       pub meets-now : d ≡ 0 → ltb i j ≡ meets at slip h i j t d
       meets-now z =
-          same-test (ltb i j) (meets at slip h i j t d)
+          same-test
           (λ l. let less : i < j = ltb→lt i j l in tells-meets at slip h i j t d (record { two = λ e. omega arith; near = near; inside = inside; same = same }) (λ _. less))
           (λ test. lt→ltb i j (meets-tells at slip h i j t d test .1 z))
 
       pub meets-later : (d ≡ 0 → ⊥) → not (eqb i j) ≡ meets at slip h i j t d
       meets-later later =
-          same-test (not (eqb i j)) (meets at slip h i j t d)
-          (λ n. tells-meets at slip h i j t d (record { two = λ e. not-true (eqb i j) n (of-true (eq-eqb i j e)); near = near; inside = inside; same = same }) (λ z. absurd (later z)))
-          (λ test. true-not (eqb i j) (λ e. meets-tells at slip h i j t d test .0 .two (eqb→eq i j e)))
+          same-test
+          (λ n. tells-meets at slip h i j t d (record { two = λ e. T-not (eqb i j) n (of-true (eq-eqb i j e)); near = near; inside = inside; same = same }) (λ z. absurd (later z)))
+          (λ test. not-T (eqb i j) (λ e. meets-tells at slip h i j t d test .0 .two (eqb→eq i j e)))
 
   -- ---- swaps
 
@@ -49,7 +41,7 @@ module _ (at : ℕ → ℕ → ℕ) (slip : ℕ → ℕ) (h i j t : ℕ) where
 
   pub swaps-there : i < j → slip i ≡ 0 → slip j ≡ 0 → t + 1 ≤ h → at i t ≡ at j (t + 1) → eqb (at j t) (at i (t + 1)) ≡ swaps at slip h i j t
   swaps-there less zᵢ zⱼ inside there =
-      same-test (eqb (at j t) (at i (t + 1))) (swaps at slip h i j t)
+      same-test
       (λ e. tells-swaps at slip h i j t (record { two = λ q. omega arith; none-slips = (zᵢ, zⱼ); inside = inside; there = there; back = eqb→eq (at j t) (at i (t + 1)) e }) less)
       (λ test. of-true (eq-eqb (at j t) (at i (t + 1)) (swaps-tells at slip h i j t test .0 .back)))
 
@@ -73,9 +65,3 @@ pub whole-within : (plan : List ℕ) (count k h : ℕ) → Whole plan count k h 
 whole-within plan count k h w i t less step =
     let rows : i * (h + 1) + (h + 1) ≤ count * (h + 1) = rw (← suc-mul i (h + 1)) (mul-le-mul-right (h + 1) (omega arith)) in
     record { short = w .short; step = step; byte = omega arith }
-
--- ---- the meeting check's clash is the one that the code finds
-
-pub found-plan-clash : (job : Job) (plan : List ℕ) → firstClash plan (job .count) (job .delay) (job .horizon) ≡ planClash job plan
-unfolding planClash
-found-plan-clash job plan = refl

@@ -11,12 +11,12 @@ use native.Mathlib.Decide.{ℕ-discrete}
 use lib.Dec.{T}
 use denote.Enum.Declared.{declared, tagOf}
 use Rattle.lists.specs.Lists.{firstOf}
+use Rattle.lists.proofs.Passing.{FirstFact}
 use Rattle.clashes.specs.Chosen.{meets, happens, candidates, orClear, chosen}
 use Rattle.clashes.specs.Find.{FirstSwap}
 use Rattle.clashes.specs.declared.Clash.{Clash}
 use Rattle.clashes.specs.declared.Clash.the-variants.{Clear, Meeting, Swap}
 use Rattle.clashes.proofs.Clash.{enum}
-use Rattle.clashes.proofs.Lists.{FirstFact}
 use Rattle.clashes.proofs.Tests.{meets-tells}
 use Rattle.clashes.proofs.Candidates.{Listed, first-passed}
 use Rattle.clashes.proofs.First.{NotLater, first-chosen}

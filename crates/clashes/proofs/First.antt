@@ -7,11 +7,13 @@ use mathlib.Core.Option.{Option, none, some}
 use native.Mathlib.Omega.{arith}
 use lib.Dec.{T}
 use Rattle.lists.specs.Lists.{range, firstOf, Every}
+use Rattle.lists.proofs.Every.{every-map, every-below}
+use Rattle.lists.proofs.Orders.{LeastFact, first-least, Ordered, ordered-append, ordered-map, ordered-each, ordered-range}
+use Rattle.lists.proofs.Passing.{FirstFact}
 use Rattle.clashes.specs.Clash.{Meets, Swaps}
 use Rattle.clashes.specs.Chosen.{happens, overPairs, atStep, candidates, orClear, chosen}
 use Rattle.clashes.specs.declared.Clash.{Clash}
 use Rattle.clashes.specs.declared.Clash.the-variants.{Clear, Meeting, Swap}
-use Rattle.clashes.proofs.Lists.{FirstFact, LeastFact, first-least, InOrder, order-append, order-map, order-each, order-range, every-map, every-below}
 use Rattle.clashes.proofs.Candidates.{Listed, row, meetingsAt, every-pair, every-meeting, every-at-step, candidate-every, first-passed, meeting-passes, swap-passes}
 
 -- 'least t, then least D, then least i, then least j. A swap at t comes after all meetings at t and before those at t + 1;
@@ -37,13 +39,13 @@ not-later-self (Swap i j t) = omega arith
 -- ---- the candidates are in order
 
 module _ (m : ℕ) where
-  pairs-in-order : (clash : ℕ → ℕ → Clash) → ((i j j' : ℕ) → j < j' → NotLater (clash i j) (clash i j')) → ((i j i' j' : ℕ) → i < i' → NotLater (clash i j) (clash i' j')) → InOrder NotLater (overPairs m clash)
+  pairs-in-order : (clash : ℕ → ℕ → Clash) → ((i j j' : ℕ) → j < j' → NotLater (clash i j) (clash i j')) → ((i j i' j' : ℕ) → i < i' → NotLater (clash i j) (clash i' j')) → Ordered NotLater (overPairs m clash)
   unfolding overPairs
   pairs-in-order clash inner outer =
-      order-each NotLater (row m clash) (range 0 m)
-      (every-below (λ i. InOrder NotLater (row m clash i)) m
-      (λ i im. order-map NotLater (λ j. clash i j) (range 0 m) (order-range (λ j j'. NotLater (clash i j) (clash i j')) 0 m (λ j j' _ less _. inner i j j' less))))
-      (order-range (λ i i'. Every (λ x. Every (NotLater x) (row m clash i')) (row m clash i)) 0 m
+      ordered-each NotLater (row m clash) (range 0 m)
+      (every-below (λ i. Ordered NotLater (row m clash i)) m
+      (λ i im. ordered-map NotLater (λ j. clash i j) (range 0 m) (ordered-range (λ j j'. NotLater (clash i j) (clash i j')) 0 m (λ j j' _ less _. inner i j j' less))))
+      (ordered-range (λ i i'. Every (λ x. Every (NotLater x) (row m clash i')) (row m clash i)) 0 m
       (λ i i' _ less _.
       every-map (λ x. Every (NotLater x) (row m clash i')) (λ j. clash i j) (range 0 m)
       (every-below (λ j. Every (NotLater (clash i j)) (row m clash i')) m
@@ -51,32 +53,32 @@ module _ (m : ℕ) where
       (every-below (λ j'. NotLater (clash i j) (clash i' j')) m (λ j' _. outer i j i' j' less))))))
 
   module _ (most : ℕ) where
-    meetings-in-order : (t : ℕ) → InOrder NotLater (meetingsAt m most t)
+    meetings-in-order : (t : ℕ) → Ordered NotLater (meetingsAt m most t)
     unfolding NotLater
     meetings-in-order t =
-        order-each NotLater (λ d. overPairs m (λ i j. Meeting i j t d)) (range 0 (most + 1))
-        (every-below (λ d. InOrder NotLater (overPairs m (λ i j. Meeting i j t d))) (most + 1)
+        ordered-each NotLater (λ d. overPairs m (λ i j. Meeting i j t d)) (range 0 (most + 1))
+        (every-below (λ d. Ordered NotLater (overPairs m (λ i j. Meeting i j t d))) (most + 1)
         (λ d _. pairs-in-order (λ i j. Meeting i j t d) (λ i j j' less. omega arith) (λ i j i' j' less. omega arith)))
-        (order-range (λ d d'. Every (λ x. Every (NotLater x) (overPairs m (λ i j. Meeting i j t d'))) (overPairs m (λ i j. Meeting i j t d))) 0 (most + 1)
+        (ordered-range (λ d d'. Every (λ x. Every (NotLater x) (overPairs m (λ i j. Meeting i j t d'))) (overPairs m (λ i j. Meeting i j t d))) 0 (most + 1)
         (λ d d' _ less _.
         every-pair (λ x. Every (NotLater x) (overPairs m (λ i j. Meeting i j t d'))) m (λ i j. Meeting i j t d)
         (λ i j _ _. every-pair (NotLater (Meeting i j t d)) m (λ i j. Meeting i j t d') (λ i' j' _ _. omega arith))))
 
-    step-in-order : (t : ℕ) → InOrder NotLater (atStep m most t)
+    step-in-order : (t : ℕ) → Ordered NotLater (atStep m most t)
     unfolding atStep NotLater
     step-in-order t =
-        order-append NotLater (meetingsAt m most t) (overPairs m (λ i j. Swap i j t))
+        ordered-append NotLater (meetingsAt m most t) (overPairs m (λ i j. Swap i j t))
         (meetings-in-order t)
         (pairs-in-order (λ i j. Swap i j t) (λ i j j' less. omega arith) (λ i j i' j' less. omega arith))
         (every-meeting (λ x. Every (NotLater x) (overPairs m (λ i j. Swap i j t))) m most t
         (λ i j d _ _ _. every-pair (NotLater (Meeting i j t d)) m (λ i j. Swap i j t) (λ i' j' _ _. omega arith)))
 
-    candidates-in-order : (h : ℕ) → InOrder NotLater (candidates m most h)
+    candidates-in-order : (h : ℕ) → Ordered NotLater (candidates m most h)
     unfolding candidates NotLater
     candidates-in-order h =
-        order-each NotLater (atStep m most) (range 0 (h + 1))
-        (every-below (λ t. InOrder NotLater (atStep m most t)) (h + 1) (λ t _. step-in-order t))
-        (order-range (λ t t'. Every (λ x. Every (NotLater x) (atStep m most t')) (atStep m most t)) 0 (h + 1)
+        ordered-each NotLater (atStep m most) (range 0 (h + 1))
+        (every-below (λ t. Ordered NotLater (atStep m most t)) (h + 1) (λ t _. step-in-order t))
+        (ordered-range (λ t t'. Every (λ x. Every (NotLater x) (atStep m most t')) (atStep m most t)) 0 (h + 1)
         (λ t t' _ less _.
         every-at-step (λ x. Every (NotLater x) (atStep m most t')) m most t
         (λ i j d _ _ _. every-at-step (NotLater (Meeting i j t d)) m most t' (λ i' j' d' _ _ _. omega arith) (λ i' j' _ _. omega arith))

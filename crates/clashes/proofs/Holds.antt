@@ -16,7 +16,7 @@ use Rattle.clashes.specs.Holds.{Pattern, heldBy, doneBy, Sparing, placeA
 -- ---- a carrier's steps done and its holds make up the moment
 
 module _ (held : ℕ → Bool) where
-  pub done-held : (n : ℕ) → doneBy held n + heldBy held n ≡ n
+  done-held : (n : ℕ) → doneBy held n + heldBy held n ≡ n
   unfolding doneBy heldBy
   done-held zero = refl
   done-held (suc n) =

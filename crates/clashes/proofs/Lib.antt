@@ -1,4 +1,3 @@
-pub mod Lists
 pub mod Holds
 pub mod Slips
 pub mod Tests

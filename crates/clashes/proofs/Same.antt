@@ -3,24 +3,15 @@
 -- Assumes nothing.
 use Prim.Native.Nat.{ℕ, _+_, _≤_, _<_}
 use mathlib.Core.Path.{_≡_, refl, sym, ap, _∙_}
-use mathlib.Core.Bool.{Bool, true, false}
-use mathlib.Core.List.{List, [], _∷_}
 use native.Mathlib.Omega.{arith}
 use lib.Dec.{T}
-use Rattle.lists.specs.Lists.{firstOf, Every}
+use Rattle.lists.proofs.Passing.{first-same}
+use Rattle.lists.proofs.Tests.{same-test}
 use Rattle.clashes.specs.Chosen.{meets, swaps, happens, candidates, orClear, chosen}
 use Rattle.clashes.specs.declared.Clash.{Clash}
 use Rattle.clashes.specs.declared.Clash.the-variants.{Clear, Meeting, Swap}
-use Rattle.clashes.proofs.Compared.{same-test}
 use Rattle.clashes.proofs.Tests.{meets-tells, tells-meets, swaps-tells, tells-swaps}
 use Rattle.clashes.proofs.Candidates.{Listed, every-candidate}
-
-first-same : {A : Type 0} (p q : A → Bool) (xs : List A) → Every (λ x. p x ≡ q x) xs → firstOf p xs ≡ firstOf q xs
-unfolding firstOf Every
-first-same p q [] same = refl
-first-same p q (x ∷ xs) same =
-    (elim (q x) as (λ b. p x ≡ b → q x ≡ b → firstOf p (x ∷ xs) ≡ firstOf q (x ∷ xs))
-    [ true ↦ λ e e₁. rw (e, e₁, firstOf) | false ↦ λ e e₁. rw (e, e₁, firstOf) (first-same p q xs (same .1)) ]) (same .0) refl
 
 -- the cells of m carriers up to step h
 abbrev pub SameCells : (ℕ → ℕ → ℕ) → (ℕ → ℕ → ℕ) → ℕ → ℕ → Type 0
@@ -45,11 +36,11 @@ module _ (at at' : ℕ → ℕ → ℕ) (slip : ℕ → ℕ) (most h m : ℕ) (s
   unfolding happens Listed
   happens-same Clear listed = refl
   happens-same (Meeting i j t d) listed =
-      same-test (meets at slip h i j t d) (meets at' slip h i j t d)
+      same-test
       (meets-carried slip h m i j t (listed .0) (listed .1) at at' same d)
       (meets-carried slip h m i j t (listed .0) (listed .1) at' at (λ i t im step. sym (same i t im step)) d)
   happens-same (Swap i j t) listed =
-      same-test (swaps at slip h i j t) (swaps at' slip h i j t)
+      same-test
       (swaps-carried slip h m i j t (listed .0) (listed .1) at at' same)
       (swaps-carried slip h m i j t (listed .0) (listed .1) at' at (λ i t im step. sym (same i t im step)))
 

@@ -2,14 +2,9 @@
 -- Assumes nothing.
 use Prim.Native.Nat.{ℕ, _≤_, _<_}
 use native.Mathlib.Nat.{le-trans}
-use Rattle.clashes.specs.Clash.{Apart}
 use Rattle.clashes.specs.Holds.{Sparing, Survives}
-use Rattle.clashes.proofs.Holds.{apart-survives, survives-apart}
 
 module _ (at : ℕ → ℕ → ℕ) (slip slip' : ℕ → ℕ) (h m : ℕ) (less : (i : ℕ) → i < m → slip' i ≤ slip i) where
   pub survives-monotone : Survives at slip h m → Survives at slip' h m
   unfolding Survives Sparing
   survives-monotone survives p sparing = survives p (λ i im n. le-trans (sparing i im n) (less i im))
-
-  pub apart-monotone : Apart at slip h m → Apart at slip' h m
-  apart-monotone apart = survives-apart at slip' h m (survives-monotone (apart-survives at slip h m apart))

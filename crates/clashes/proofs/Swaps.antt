@@ -7,7 +7,7 @@ use mathlib.Core.Bool.{Bool, true, false}
 use native.Mathlib.Omega.{arith}
 use native.Mathlib.Decide.{ℕ-discrete}
 use lib.Dec.{T}
-use Rattle.lists.proofs.Bools.{of-true, of-false}
+use Rattle.lists.proofs.Tests.{of-true, of-false}
 use Rattle.clashes.specs.Chosen.{swaps}
 use Rattle.clashes.specs.Find.{FirstSwap}
 use Rattle.clashes.specs.declared.Clash.{Clash}

@@ -2,25 +2,13 @@
 -- Assumes nothing.
 use Prim.Native.Nat.{ℕ, _+_, _<_}
 use mathlib.Core.Path.{_≡_, refl}
-use mathlib.Core.Bool.{Bool, true, false, _&&_}
+use mathlib.Core.Bool.{true, false, _&&_}
 use native.Mathlib.Omega.{arith}
 use lib.Dec.{T, leb, ltb, eqb, leb→le, le→leb, ltb→lt, lt→ltb, eqb→eq}
 use borrow.Author.Tests.{eqb-true, eqb-false, eq-eqb, ne-eqb}
+use Rattle.lists.proofs.Tests.{and-both, both-and, eq-test}
 use Rattle.clashes.specs.Clash.{Meets, Swaps}
 use Rattle.clashes.specs.Chosen.{written, meets, swaps}
-
--- ---- 'and', 'equal'
-
-and-tells : (a b : Bool) → T (a && b) → T a × T b
-and-tells true b t = (tt, t)
-and-tells false b t = absurd t
-
-tells-and : (a b : Bool) → T a → T b → T (a && b)
-tells-and true b s t = t
-tells-and false b s t = absurd s
-
-eq→eqb : (a b : ℕ) → a ≡ b → T (eqb a b)
-eq→eqb a b e = rw (eq-eqb a b e) tt
 
 -- ---- 'For D = 0 write the smaller number first.'
 
@@ -44,29 +32,29 @@ module _ (at : ℕ → ℕ → ℕ) (slip : ℕ → ℕ) (h : ℕ) where
   pub meets-tells : (i j t d : ℕ) → T (meets at slip h i j t d) → Meets at slip h i j t d × (d ≡ 0 → i < j)
   unfolding meets
   meets-tells i j t d test =
-      let w = and-tells (written d i j) _ test in
-      let n = and-tells (leb d (slip i)) _ (w .1) in
-      let p = and-tells (leb (t + d) h) _ (n .1) in
+      let w = and-both (written d i j) _ test in
+      let n = and-both (leb d (slip i)) _ (w .1) in
+      let p = and-both (leb (t + d) h) _ (n .1) in
       let order = written-tells d i j (w .0) in
       (record { two = order .0; near = leb→le d (slip i) (n .0); inside = leb→le (t + d) h (p .0); same = eqb→eq (at i t) (at j (t + d)) (p .1) }, order .1)
 
   pub tells-meets : (i j t d : ℕ) → Meets at slip h i j t d → (d ≡ 0 → i < j) → T (meets at slip h i j t d)
   unfolding meets
   tells-meets i j t d m less =
-      tells-and (written d i j) _ (tells-written d i j (m .two) less)
-      (tells-and (leb d (slip i)) _ (le→leb d (slip i) (m .near))
-      (tells-and (leb (t + d) h) _ (le→leb (t + d) h (m .inside)) (eq→eqb (at i t) (at j (t + d)) (m .same))))
+      both-and (written d i j) _ (tells-written d i j (m .two) less)
+      (both-and (leb d (slip i)) _ (le→leb d (slip i) (m .near))
+      (both-and (leb (t + d) h) _ (le→leb (t + d) h (m .inside)) (eq-test (at i t) (at j (t + d)) (m .same))))
 
   -- ---- swaps
 
   pub swaps-tells : (i j t : ℕ) → T (swaps at slip h i j t) → Swaps at slip h i j t × (i < j)
   unfolding swaps
   swaps-tells i j t test =
-      let w = and-tells (ltb i j) _ test in
-      let s = and-tells (eqb (slip i) 0 && eqb (slip j) 0) _ (w .1) in
-      let z = and-tells (eqb (slip i) 0) _ (s .0) in
-      let p = and-tells (leb (t + 1) h) _ (s .1) in
-      let x = and-tells (eqb (at i t) (at j (t + 1))) _ (p .1) in
+      let w = and-both (ltb i j) _ test in
+      let s = and-both (eqb (slip i) 0 && eqb (slip j) 0) _ (w .1) in
+      let z = and-both (eqb (slip i) 0) _ (s .0) in
+      let p = and-both (leb (t + 1) h) _ (s .1) in
+      let x = and-both (eqb (at i t) (at j (t + 1))) _ (p .1) in
       let less : i < j = ltb→lt i j (w .0) in (
         record {
           two = λ q. omega arith;
@@ -81,8 +69,8 @@ module _ (at : ℕ → ℕ → ℕ) (slip : ℕ → ℕ) (h : ℕ) where
   pub tells-swaps : (i j t : ℕ) → Swaps at slip h i j t → i < j → T (swaps at slip h i j t)
   unfolding swaps
   tells-swaps i j t s less =
-      tells-and (ltb i j) _ (lt→ltb i j less)
-      (tells-and (eqb (slip i) 0 && eqb (slip j) 0) _
-      (tells-and (eqb (slip i) 0) _ (eq→eqb (slip i) 0 (s .none-slips .0)) (eq→eqb (slip j) 0 (s .none-slips .1)))
-      (tells-and (leb (t + 1) h) _ (le→leb (t + 1) h (s .inside))
-      (tells-and (eqb (at i t) (at j (t + 1))) _ (eq→eqb (at i t) (at j (t + 1)) (s .there)) (eq→eqb (at j t) (at i (t + 1)) (s .back)))))
+      both-and (ltb i j) _ (lt→ltb i j less)
+      (both-and (eqb (slip i) 0 && eqb (slip j) 0) _
+      (both-and (eqb (slip i) 0) _ (eq-test (slip i) 0 (s .none-slips .0)) (eq-test (slip j) 0 (s .none-slips .1)))
+      (both-and (leb (t + 1) h) _ (le→leb (t + 1) h (s .inside))
+      (both-and (eqb (at i t) (at j (t + 1))) _ (eq-test (at i t) (at j (t + 1)) (s .there)) (eq-test (at j t) (at i (t + 1)) (s .back)))))

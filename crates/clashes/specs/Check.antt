@@ -1,7 +1,7 @@
 -- Document 01, 'Numbers given back': the meeting check. 'Both begin with checks 1 to 6 (no N there), then 7 if the plan is
 -- shorter than m × (H + 1); bytes after that length are not read. The meeting check compares any bytes as cells and says
 -- 0, or 22 with the meeting or swap chosen by rule 5 and which of the two it is.'
-use mathlib.Core.Bool.{Bool, true, false}
+use mathlib.Core.Bool.{true, false}
 use mathlib.Core.List.{List}
 use Prim.Native.Nat.{ℕ}
 use lib.Dec.{ltb}

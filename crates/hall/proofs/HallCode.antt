@@ -8,13 +8,13 @@ use lib.Dec.{eqb, ltb, leb, ltb→lt, leb→le}
 use lib.ListN.{length, getD, List·getD-eq-default}
 use borrow.Author.Tests.{lt-ltb, le-ltb, eq-eqb, ne-eqb}
 use Rattle.lists.specs.Lists.{only, anyOf}
-use Rattle.lists.proofs.Bools.{of-true, and-both}
+use Rattle.lists.proofs.Passing.{any-kept}
+use Rattle.lists.proofs.Tests.{of-true, and-both}
 use Rattle.hall.specs.Hall.{Hall, size, wrongByte, wrongBytes, isOpen}
 use Rattle.hall.specs.Moves.{rowAfter, colAfter, onGrid, cellAt, landing, reachFrom, reach, mayFollow}
 use Rattle.hall.specs.Landing.{landed}
 use Rattle.hall.specs.declared.Landing.{Landing}
 use Rattle.hall.specs.declared.Landing.the-variants.{Off, Cell}
-use Rattle.hall.proofs.Passing.{any-kept}
 
 pub area-small : {w h : ℕ} → w ≤ 16 → h ≤ 16 → w * h ≤ 256
 area-small a b = mul-le-mul a b

@@ -12,9 +12,12 @@ use lib.Dec.{T, leb, ltb, leb→le, le→leb}
 use lib.ListN.{getD}
 use lib.Arith.{digits-lt, digits-div, digits-mod}
 use Rattle.lists.specs.Lists.{range, Every}
+use Rattle.lists.proofs.Members.{only-member, member-only, keep-member, member-keep, each-member, member-each, range-member, member-range}
+use Rattle.lists.proofs.Every.{only-every, every-below}
+use Rattle.lists.proofs.Orders.{Ordered, ordered-imply, ordered-only, ordered-each, Rising}
+use Rattle.lists.proofs.Tests.{of-true, and-both, both-and}
 use Rattle.hall.specs.Hall.{Hall, size, isOpen}
 use Rattle.hall.specs.Moves.{rowChanges, colChanges, moveCount, rowAfter, colAfter, onGrid, cellAt, landing, reachFrom, reach, mayFollow}
-use Rattle.hall.proofs.Lists.{both, and-test, only-member, member-only, keep-member, member-keep, each-member, member-each, range-member, member-range, Ordered, ordered-only, ordered-keep, ordered-each, Rising}
 
 -- ---- a place on the grid, row and column from 1
 
@@ -27,17 +30,17 @@ record OnGrid (width height r c : ℕ) : Type 0 where
 grid-fact : (width height r c : ℕ) → T (onGrid width height r c) → OnGrid width height r c
 unfolding onGrid
 grid-fact width height r c h =
-    let rows = both (ltb 0 r && leb r height) (ltb 0 c && leb c width) h in
-    let row = both (ltb 0 r) (leb r height) (rows .0) in
-    let col = both (ltb 0 c) (leb c width) (rows .1) in
+    let rows = and-both (ltb 0 r && leb r height) (ltb 0 c && leb c width) h in
+    let row = and-both (ltb 0 r) (leb r height) (rows .0) in
+    let col = and-both (ltb 0 c) (leb c width) (rows .1) in
     record { under = leb→le 1 r (row .0); over = leb→le r height (row .1); after = leb→le 1 c (col .0); before = leb→le c width (col .1) }
 
 grid-test : (width height r c : ℕ) → OnGrid width height r c → T (onGrid width height r c)
 unfolding onGrid
 grid-test width height r c g =
-    and-test (ltb 0 r && leb r height) (ltb 0 c && leb c width)
-    (and-test (ltb 0 r) (leb r height) (le→leb 1 r (g .under)) (le→leb r height (g .over)))
-    (and-test (ltb 0 c) (leb c width) (le→leb 1 c (g .after)) (le→leb c width (g .before)))
+    both-and (ltb 0 r && leb r height) (ltb 0 c && leb c width)
+    (both-and (ltb 0 r) (leb r height) (le→leb 1 r (g .under)) (le→leb r height (g .over)))
+    (both-and (ltb 0 c) (leb c width) (le→leb 1 c (g .after)) (le→leb c width (g .before)))
 
 landing-member : {u : ℕ} (width height row col m : ℕ) → List·Memᴰ u (landing width height row col m) → OnGrid width height (rowAfter row m) (colAfter col m) × (u ≡ cellAt width (rowAfter row m) (colAfter col m))
 unfolding landing
@@ -75,20 +78,22 @@ cells-rise width height r c s d g k (inr h) = let lt : c - 1 < d - 1 = omega ari
 reachFrom-rises : (width height row col : ℕ) → Rising (reachFrom width height row col)
 unfolding Rising reachFrom landing Earlier
 reachFrom-rises width height row col =
-    ordered-each (landing width height row col) (Earlier row col) (λ x y. x < y) (range 0 moveCount) (moves-in-order row col)
-    (λ m. ordered-only (λ x y. x < y) (onGrid width height (rowAfter row m) (colAfter col m)) (cellAt width (rowAfter row m) (colAfter col m)))
-    (λ i j e a b m n.
-    let p = landing-member width height row col i m in
-    let q = landing-member width height row col j n in
-    rw (p .1, q .1) (cells-rise width height (rowAfter row i) (colAfter col i) (rowAfter row j) (colAfter col j) (p .0) (q .0) e))
+    ordered-each (λ x y. x < y) (landing width height row col) (range 0 moveCount)
+    (every-below (λ m. Ordered (λ x y. x < y) (landing width height row col m)) moveCount
+    (λ m _. ordered-only (λ x y. x < y) (onGrid width height (rowAfter row m) (colAfter col m)) (cellAt width (rowAfter row m) (colAfter col m))))
+    (ordered-imply (Earlier row col) (λ i j. Every (λ x. Every (λ y. x < y) (landing width height row col j)) (landing width height row col i))
+    (λ i j e.
+    only-every (λ x. Every (λ y. x < y) (landing width height row col j)) (onGrid width height (rowAfter row i) (colAfter col i)) (cellAt width (rowAfter row i) (colAfter col i))
+    (λ g.
+    only-every (λ y. cellAt width (rowAfter row i) (colAfter col i) < y) (onGrid width height (rowAfter row j) (colAfter col j)) (cellAt width (rowAfter row j) (colAfter col j))
+    (λ k.
+    cells-rise width height (rowAfter row i) (colAfter col i) (rowAfter row j) (colAfter col j)
+    (grid-fact width height (rowAfter row i) (colAfter col i) (of-true g)) (grid-fact width height (rowAfter row j) (colAfter col j) (of-true k)) e)))
+    (range 0 moveCount) (moves-in-order row col))
 
 pub reach-rises : (hall : Hall) (v : ℕ) → Rising (reach hall v)
 unfolding reach
 reach-rises hall v = reachFrom-rises (hall .width) (hall .height) (v / hall .width) (v % hall .width)
-
-pub mayFollow-rises : (hall : Hall) (v : ℕ) → Rising (mayFollow hall v)
-unfolding Rising mayFollow
-mayFollow-rises hall v = ordered-keep (λ x y. x < y) (isOpen hall) (reach hall v) (reach-rises hall v)
 
 -- ---- a cell by its row and column
 
@@ -126,13 +131,13 @@ landing-leads hall v u m listed n =
     let p = cell-place (hall .width) (hall .height) (rowAfter (v / hall .width) m) (colAfter (v % hall .width) m) (f .0) in
     record { listed = listed; inside = rw (f .1) (p .0); row = rw (f .1) (p .1); col = rw (f .1) (p .2) }
 
-pub reach-leads : (hall : Hall) (v u : ℕ) → List·Memᴰ u (reach hall v) → (m : ℕ) × Leads hall v u m
+reach-leads : (hall : Hall) (v u : ℕ) → List·Memᴰ u (reach hall v) → (m : ℕ) × Leads hall v u m
 unfolding reach reachFrom
 reach-leads hall v u n =
     let (m, listed, lands) = each-member (landing (hall .width) (hall .height) (v / hall .width) (v % hall .width)) (range 0 moveCount) n in
     (m, landing-leads hall v u m (range-member 0 moveCount listed .1) lands)
 
-pub leads-reach : (hall : Hall) (v u m : ℕ) → Leads hall v u m → List·Memᴰ u (reach hall v)
+leads-reach : (hall : Hall) (v u m : ℕ) → Leads hall v u m → List·Memᴰ u (reach hall v)
 unfolding reach reachFrom
 leads-reach hall v u m f =
     let p = place-cell (hall .width) (hall .height) u (f .inside) in

@@ -6,12 +6,12 @@ use mathlib.Core.Path.{_≡_}
 use mathlib.Core.Bool.{false, not}
 use lib.Dec.{eqb, ltb}
 use lib.ListN.{length}
-use borrow.Author.Tests.{eqb-true, eqb-false, ltb-false}
+use borrow.Author.Tests.{eqb-true, eqb-false, ltb-false, not-false}
 use Rattle.lists.specs.Lists.{anyOf}
+use Rattle.lists.proofs.Tests.{or-fails}
 use Rattle.hall.specs.Hall.{Hall, size, wrongSide, wrongGrid, wrongByte, wrongBytes}
-use Rattle.hall.proofs.Tests.{or-fails, not-fails}
 
-pub side-right : (n : ℕ) → wrongSide n ≡ false → (1 ≤ n) × (n ≤ 16)
+side-right : (n : ℕ) → wrongSide n ≡ false → (1 ≤ n) × (n ≤ 16)
 unfolding wrongSide
 side-right n e =
     let (z, l) = or-fails (eqb n 0) (ltb 16 n) e in
@@ -29,4 +29,4 @@ pub bytes-right : (hall : Hall) → wrongBytes hall ≡ false → length (hall .
 unfolding wrongBytes
 bytes-right hall e =
     let (l, b) = or-fails (not (eqb (length (hall .bytes)) (size hall))) (anyOf wrongByte (hall .bytes)) e in
-    eqb-true (length (hall .bytes)) (size hall) (not-fails (eqb (length (hall .bytes)) (size hall)) l)
+    eqb-true (length (hall .bytes)) (size hall) (not-false (eqb (length (hall .bytes)) (size hall)) l)

@@ -15,7 +15,7 @@ const OPEN: u8 = 46;
 const CLOSED: u8 = 35;
 
 // 'A hall is a grid of 1 to 16 columns (width) by 1 to 16 rows (height).'
-const MOST_SIDE: usize = 16;
+pub const MOST_SIDE: usize = 16;
 
 // A side that is no number from 1 to 16.
 fn wrong_side(n: usize) -> bool

@@ -2,22 +2,22 @@
 -- fact. Assumes nothing.
 use Prim.Native.Nat.{ℕ, suc, _-_, _*_, _≤_, _<_}
 use native.Mathlib.Omega.{arith}
-use mathlib.Core.Path.{_≡_, refl, subst}
+use mathlib.Core.Path.{_≡_, refl}
 use mathlib.Core.Logic.{_≢_}
 use mathlib.Core.Bool.{Bool, true, false, not, _||_}
-use mathlib.Core.List.{List, map, List·Memᴰ}
+use mathlib.Core.List.{map, List·Memᴰ}
 use mathlib.Core.Option.{Option, none, some}
 use lib.Dec.{T, eqb, ltb}
 use lib.ListN.{length}
 use borrow.Author.Tests.{eq-eqb, eqb-false, ltb-false}
-use Rattle.lists.specs.Lists.{range, firstOf}
-use Rattle.lists.proofs.Bools.{of-true, or-left, or-right}
-use Rattle.lists.proofs.Members.{has-range, has-map, has-each, FirstFact, first-fact}
+use Rattle.lists.specs.Lists.{range}
+use Rattle.lists.proofs.Tests.{of-true, passes, or-left, or-right, or-fails}
+use Rattle.lists.proofs.Members.{member-range, member-map, member-each}
+use Rattle.lists.proofs.Passing.{first-none}
 use Rattle.hall.specs.Hall.{isOpen, wrongGrid, wrongBytes}
-use Rattle.hall.proofs.Tests.{or-fails}
 use Rattle.hall.proofs.RightHall.{grid-right, bytes-right}
 use Rattle.job.specs.Job.{Job, Pair, wrongLimits, wrongCount, wrongEnds, firstWrong, share, pairs, firstShared}
-use Rattle.job.specs.Verdict.{refuseIf, endsVerdict, sharedVerdict, judgeWith, judge}
+use Rattle.job.specs.Verdict.{refuseIf, endsVerdict, sharedVerdict, judgeWith}
 use Rattle.job.specs.declared.Verdict.{Verdict}
 use Rattle.job.specs.declared.Verdict.the-variants.{Accepted, WrongGrid, WrongBytes, WrongLimits, WrongCount}
 
@@ -54,40 +54,31 @@ count-right job e =
     let most : job .count ≤ 8 = ltb-false 8 (job .count) l in
     omega (arith, some)
 
--- where none is the first that passes, none passes
-first-none : {A : Type 0} (p : A → Bool) (xs : List A) → firstOf p xs ≡ none → (x : A) → List·Memᴰ x xs → T (p x) → ⊥
-unfolding FirstFact
-first-none {A} p xs e = subst (λ (o : Option A). FirstFact p xs o) e (first-fact p xs)
-
-unless-not : (b : Bool) → (T (not b) → ⊥) → T b
-unless-not true n = tt
-unless-not false n = n tt
-
 ends-right : (job : Job) → firstWrong job ≡ none → (i : ℕ) → i < job .count → T (isOpen (job .hall) (job .startOf i)) × T (isOpen (job .hall) (job .goalOf i))
 unfolding firstWrong wrongEnds
 ends-right job e i l =
     let s = isOpen (job .hall) (job .startOf i) in
     let g = isOpen (job .hall) (job .goalOf i) in
-    let right : T (not s || not g) → ⊥ = first-none (wrongEnds job) (range 0 (job .count)) e i (has-range 0 (job .count) i (omega arith) (omega arith)) in
-    (unless-not s (λ h. right (or-left (not s) (not g) h)), unless-not g (λ h. right (or-right (not s) (not g) h)))
+    let right : T (not s || not g) → ⊥ = first-none (wrongEnds job) (range 0 (job .count)) e (member-range 0 (job .count) (omega arith) (omega arith)) in
+    (passes s (λ h. right (or-left (not s) (not g) h)), passes g (λ h. right (or-right (not s) (not g) h)))
 
-pub pairs-have : (m i j : ℕ) → i < j → j < m → List·Memᴰ (record { one = i; two = j }) (pairs m)
+pairs-have : (m i j : ℕ) → i < j → j < m → List·Memᴰ (record { one = i; two = j }) (pairs m)
 unfolding pairs
 pairs-have m i j l h =
-    has-each (λ a. map (λ b. record { one = a; two = b }) (range (suc a) (m - suc a))) i (range 0 m) (record { one = i; two = j })
-    (has-range 0 m i (omega arith) (omega arith))
-    (has-map (λ b. record { one = i; two = b }) j (range (suc i) (m - suc i)) (has-range (suc i) (m - suc i) j (omega arith) (omega arith)))
+    member-each (λ a. map (λ b. record { one = a; two = b }) (range (suc a) (m - suc a))) (range 0 m)
+    (member-range {x = i} 0 m (omega arith) (omega arith))
+    (member-map (λ b. record { one = i; two = b }) (range (suc i) (m - suc i)) (member-range {x = j} (suc i) (m - suc i) (omega arith) (omega arith)))
 
 starts-apart : (job : Job) → firstShared job ≡ none → (i j : ℕ) → i < j → j < job .count → job .startOf i ≢ job .startOf j
 unfolding firstShared share
 starts-apart job e i j l h q =
-    first-none (share job) (pairs (job .count)) e (record { one = i; two = j }) (pairs-have (job .count) i j l h)
+    first-none (share job) (pairs (job .count)) e (pairs-have (job .count) i j l h)
     (or-left (eqb (job .startOf i) (job .startOf j)) (eqb (job .goalOf i) (job .goalOf j)) (of-true (eq-eqb (job .startOf i) (job .startOf j) q)))
 
 goals-apart : (job : Job) → firstShared job ≡ none → (i j : ℕ) → i < j → j < job .count → job .goalOf i ≢ job .goalOf j
 unfolding firstShared share
 goals-apart job e i j l h q =
-    first-none (share job) (pairs (job .count)) e (record { one = i; two = j }) (pairs-have (job .count) i j l h)
+    first-none (share job) (pairs (job .count)) e (pairs-have (job .count) i j l h)
     (or-right (eqb (job .startOf i) (job .startOf j)) (eqb (job .goalOf i) (job .goalOf j)) (of-true (eq-eqb (job .goalOf i) (job .goalOf j) q)))
 
 -- ---- the accepted job
@@ -151,8 +142,3 @@ accepted-facts wrongN job e =
       startsApart = starts-apart job (p .shared);
       goalsApart = goals-apart job (p .shared);
     }
-
--- the planner's check looks at N too, so what it accepts the plan checks accept
-pub accepted-any : (wrongN : Bool) (job : Job) → judgeWith wrongN job ≡ Accepted → judge job ≡ Accepted
-unfolding judge
-accepted-any wrongN job e = subst (λ (b : Bool). judgeWith b job ≡ Accepted) (passed wrongN job e .capacity) e

@@ -2,11 +2,11 @@
 -- delay bound k (0 to 4), the horizon H (0 to 63) and the capacity N'. The two checks have no N, so it stands beside.
 -- The carriers are read by their number, so that every form in which a caller lends them is the same job.
 use Prim.Native.Nat.{ℕ, suc, _+_, _-_, _*_}
-use mathlib.Core.Bool.{Bool, not, _&&_, _||_}
+use mathlib.Core.Bool.{Bool, not, _||_}
 use mathlib.Core.List.{List, map}
 use mathlib.Core.Option.{Option}
 use lib.Dec.{eqb, ltb}
-use lib.ListN.{length, getD}
+use lib.ListN.{getD}
 use Rattle.lists.specs.Lists.{range, each, firstOf}
 use Rattle.hall.specs.Hall.{Hall, isOpen}
 

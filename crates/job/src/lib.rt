@@ -14,11 +14,11 @@ ghost use Rattle.job.specs.Found.{carriersOf, endFound, pairFound, pairs
 // 'the delay bound k (0 to 4), the horizon H (0 to 63) and the capacity N (1 to 1,024 records). There are 1 to 8 carriers.'
 const MOST_DELAY: usize = 4;
 
-const MOST_HORIZON: usize = 63;
+pub const MOST_HORIZON: usize = 63;
 
-const MOST_RECORDS: usize = 1024;
+pub const MOST_RECORDS: usize = 1024;
 
-const MOST_CARRIERS: usize = 8;
+pub const MOST_CARRIERS: usize = 8;
 
 // The carriers by value: start and goal of each, and how many there are.
 pub struct Team {

@@ -13,17 +13,17 @@ use lib.ListN.{getD}
 use lib.Arith.{digits-lt, digits-div, digits-mod}
 use borrow.Author.Tests.{eq-eqb, ne-eqb, eqb-false}
 use Rattle.lists.specs.Lists.{range, each}
+use Rattle.routes.proofs.Cost.{step-most}
+use Rattle.lists.proofs.Members.{member-each, member-range}
 use Rattle.hall.specs.Hall.{Hall, isOpen}
 use Rattle.hall.specs.Moves.{landing, moveCount, reach, reachFrom}
 use Rattle.hall.specs.Landing.{landed}
 use Rattle.hall.specs.declared.Landing.{Landing}
 use Rattle.hall.specs.declared.Landing.the-variants.{Off, Cell}
-use Rattle.hall.proofs.Lists.{member-each, member-range}
 use Rattle.hall.proofs.Reach.{reach-inside}
 use Rattle.routes.specs.Route.{stepCost}
 use Rattle.layers.specs.Layers.{crossingStarts}
 use Rattle.layers.specs.Fill.{lentHall, levelIn, leastOf, leastTo, halves, odd, unless, turnsBy, afterStep, mayBegin, madeLevel, lastLevel, madeByte, lastByte}
-use Rattle.layers.proofs.Levels.{step-most}
 
 -- ---- the numbers of cells are small
 

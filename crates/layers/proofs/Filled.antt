@@ -4,15 +4,16 @@
 use Prim.Native.Nat.{ℕ, zero, suc, _+_, _-_, _*_, _/_, _%_, _≤_, _<_}
 use native.Mathlib.Omega.{arith}
 use native.Mathlib.Numerals.{add-one}
-use mathlib.Core.Path.{_≡_, refl, ap, _∙_}
+use mathlib.Core.Path.{_≡_, ap, _∙_}
 use mathlib.Core.Bool.{Bool, true, false}
-use mathlib.Core.List.{List, [], _∷_, map, List·Memᴰ, List·Memᴰ·head, List·Memᴰ·tail}
+use mathlib.Core.List.{List, List·Memᴰ}
 use lib.Dec.{eqb}
 use lib.ListN.{getD}
 use Rattle.lists.specs.Lists.{range}
+use Rattle.lists.proofs.Ranges.{map-same}
+use Rattle.lists.proofs.Members.{each-member, member-each}
 use Rattle.hall.specs.Hall.{Hall, size}
 use Rattle.hall.specs.Moves.{landing, moveCount, reach, reachFrom}
-use Rattle.hall.proofs.Lists.{each-member, member-each}
 use Rattle.hall.proofs.Reach.{reach-inside}
 use Rattle.routes.specs.Bars.{mayStand, mayTurn}
 use Rattle.routes.specs.Best.{bestWay}
@@ -47,10 +48,6 @@ turns-inside hall v mark w n =
     reach-inside hall v w
     (member-each (landing (hall .width) (hall .height) (v / hall .width) (v % hall .width)) (range 0 moveCount) listed
     (spared (odd (halves m mark)) (landing (hall .width) (hall .height) (v / hall .width) (v % hall .width) m) w kept))
-
-pub map-same : (f g : ℕ → ℕ) (ws : List ℕ) → ((w : ℕ) → List·Memᴰ w ws → f w ≡ g w) → map f ws ≡ map g ws
-map-same f g [] h = refl
-map-same f g (w ∷ ws) h = rw (h w (List·Memᴰ·head refl), map-same f g ws (λ x m. h x (List·Memᴰ·tail m)))
 
 pub made-same : (hall : Hall) (goal : ℕ) (f g : ℕ → ℕ) (v mark : ℕ) → ((w : ℕ) → w < size hall → f w ≡ g w) → madeLevel hall goal f v mark ≡ madeLevel hall goal g v mark
 unfolding madeLevel

@@ -13,6 +13,7 @@ use borrow.Author.Tests.{leb-true, leb-false, eq-eqb, ne-eqb}
 use Rattle.lists.specs.Lists.{only, keep, anyOf}
 use Rattle.hall.specs.Hall.{Hall, isOpen}
 use Rattle.routes.specs.Route.{stepCost, cost}
+use Rattle.routes.proofs.Cost.{step-most}
 use Rattle.routes.specs.Bars.{barsCell, mayStand, mayTurn}
 use Rattle.routes.specs.Best.{cheaper, better, bestOf, inFront, bestWay}
 use Rattle.routes.specs.declared.Bar.{Bar}
@@ -26,12 +27,6 @@ use Rattle.layers.proofs.Turns.{mark-begins, mark-turns}
 unfoldable pub Short : ℕ → ℕ → Option (List ℕ) → Type 0
 Short goal n none = Unit {0}
 Short goal n (some r) = cost goal r ≤ n
-
-pub step-most : (b : Bool) (c : ℕ) → stepCost b c ≤ suc c
-unfolding stepCost
-step-most true zero = omega arith
-step-most true (suc c) = omega arith
-step-most false c = omega arith
 
 short-more : (goal m n : ℕ) (o : Option (List ℕ)) → m ≤ n → Short goal m o → Short goal n o
 unfolding Short

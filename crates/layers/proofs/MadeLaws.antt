@@ -2,7 +2,7 @@
 -- more, one row more and one layer more keep what is said of the rest.
 -- Assumes nothing.
 use Prim.Native.Nat.{ℕ, _+_, _*_, _/_, _%_, _≤_, _<_}
-use native.Mathlib.Nat.{mul-comm, suc-mul, mul-le-mul-right}
+use native.Mathlib.Nat.{mul-comm, suc-mul}
 use native.Mathlib.Omega.{arith}
 use native.Mathlib.Numerals.{add-one}
 use native.Mathlib.Decide.{ℕ-discrete, decLt}
@@ -13,6 +13,7 @@ use lib.ListN.{length, getD, set, length-set}
 use lib.Seq.{getD-set-same, getD-set-other}
 use borrow.Author.Tests.{ne-eqb}
 use Rattle.hall.specs.Hall.{Hall, size}
+use Rattle.lists.proofs.Parts.{part-within}
 use Rattle.layers.specs.Layers.{crossingStarts}
 use Rattle.layers.specs.Fill.{levelIn, leastOf, turnsBy, afterStep, mayBegin, madeLevel, madeByte, lastByte, Made, MadeFrom, Levelled}
 use Rattle.layers.proofs.Filled.{made-same}
@@ -139,11 +140,8 @@ last-more hall goal base lo mid hi a b c m e l room k =
 pub one-more : (t n : ℕ) → (t + 1) * n ≡ t * n + n
 one-more t n = rw (add-one, suc-mul)
 
-pub layers-apart : (s t n : ℕ) → s < t → s * n + n ≤ t * n
-layers-apart s t n l = rw (← one-more) (mul-le-mul-right n (omega arith))
-
 pub rows-inside : (width height row : ℕ) → row < height → row * width + width ≤ width * height
-rows-inside width height row l = rw (mul-comm width height) (layers-apart row height width l)
+rows-inside width height row l = rw (mul-comm width height) (part-within row height width l)
 
 module _ (hall : Hall) (goal h : ℕ) (marks : List ℕ) where
   pub layers-none : MadeFrom hall goal h h marks marks
@@ -155,22 +153,22 @@ module _ (hall : Hall) (goal h : ℕ) (marks : List ℕ) where
       record {
         long = m .long ∙ f .long;
         made = λ s v k l i. here s v k l i (ℕ-discrete s t);
-        under = λ x l. m .under x (omega arith) ∙ f .under x (omega (arith, layers-apart t n (size hall) (omega arith)));
-        over = λ x l. m .over x (omega (arith, layers-apart t h (size hall) (omega arith))) ∙ f .over x l;
+        under = λ x l. m .under x (omega arith) ∙ f .under x (omega (arith, part-within t n (size hall) (omega arith)));
+        over = λ x l. m .over x (omega (arith, part-within t h (size hall) (omega arith))) ∙ f .over x l;
       }
     where
       later : (s v mark : ℕ) → t ≤ s → madeByte hall goal a ((s + 1) * size hall) v mark ≡ madeByte hall goal b ((s + 1) * size hall) v mark
-      later s v mark k = byte-same hall goal b a ((s + 1) * size hall) v mark (λ w l. sym (m .over ((s + 1) * size hall + w) (omega (arith, layers-apart t (s + 1) (size hall) (omega arith)))))
+      later s v mark k = byte-same hall goal b a ((s + 1) * size hall) v mark (λ w l. sym (m .over ((s + 1) * size hall + w) (omega (arith, part-within t (s + 1) (size hall) (omega arith)))))
 
       here : (s v : ℕ) → t ≤ s → s < h → v < size hall → Dec (s ≡ t) → getD b (s * size hall + v) 0 ≡ madeByte hall goal b ((s + 1) * size hall) v (getD marks (s * size hall + v) 0)
       here s v k l i (yes q) =
           rw q
           (m .made v (omega arith) i
-          ∙ ap (madeByte hall goal a (t * size hall + size hall) v) (f .under (t * size hall + v) (omega (arith, layers-apart t n (size hall) (omega arith))))
+          ∙ ap (madeByte hall goal a (t * size hall + size hall) v) (f .under (t * size hall + v) (omega (arith, part-within t n (size hall) (omega arith))))
           ∙ ap (λ x. madeByte hall goal a x v (getD marks (t * size hall + v) 0)) (sym (one-more t (size hall)))
           ∙ later t v (getD marks (t * size hall + v) 0) (omega arith))
       here s v k l i (no q) =
-          m .over (s * size hall + v) (omega (arith, layers-apart t s (size hall) (omega (arith, q))))
+          m .over (s * size hall + v) (omega (arith, part-within t s (size hall) (omega (arith, q))))
           ∙ f .made s v (omega (arith, q)) l i
           ∙ later s v (getD marks (s * size hall + v) 0) k
 
@@ -181,6 +179,6 @@ module _ (hall : Hall) (goal h : ℕ) (marks : List ℕ) where
         last = λ v l. f .over (h * size hall + v) (omega arith) ∙ m .made v (omega arith) l;
         made = λ t v l k.
             f .made t v (omega arith) l k
-            ∙ ap (madeByte hall goal b ((t + 1) * size hall) v) (m .under (t * size hall + v) (omega (arith, layers-apart t h (size hall) l)));
+            ∙ ap (madeByte hall goal b ((t + 1) * size hall) v) (m .under (t * size hall + v) (omega (arith, part-within t h (size hall) l)));
         kept = record { long = f .long ∙ m .long; rest = λ x l. f .over x (omega (arith, one-more h (size hall))) ∙ m .over x (omega (arith, one-more h (size hall))) };
       }

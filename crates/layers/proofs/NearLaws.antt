@@ -14,7 +14,7 @@ use lib.ListN.{length, getD, set, length-set}
 use lib.Seq.{getD-set-same, getD-set-other}
 use borrow.Author.Tests.{eq-eqb, ne-eqb, lt-ltb, le-ltb, le-leb, lt-leb}
 use Rattle.lists.specs.Lists.{sumTo, only}
-use Rattle.lists.proofs.Bools.{of-true, and-both}
+use Rattle.lists.proofs.Tests.{of-true, and-both}
 use Rattle.hall.specs.Hall.{Hall, size, isOpen}
 use Rattle.hall.specs.Moves.{rowChanges, colChanges, rowAfter, colAfter, onGrid, cellAt, landing, moveCount}
 use Rattle.hall.specs.Landing.{landed}

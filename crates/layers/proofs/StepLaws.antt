@@ -9,14 +9,13 @@ use mathlib.Core.List.{List, [], _++_}
 use lib.ListN.{getD}
 use borrow.Author.Tests.{eq-eqb, ne-eqb}
 use Rattle.lists.specs.Lists.{range, only, keep, each}
+use Rattle.lists.proofs.Ranges.{range-next, range-done, keep-append}
 use Rattle.hall.specs.Moves.{landing, moveCount}
 use Rattle.hall.specs.Landing.{landed}
 use Rattle.hall.specs.declared.Landing.{Landing}
 use Rattle.hall.specs.declared.Landing.the-variants.{Off, Cell}
-use Rattle.hall.proofs.Passing.{range-next, range-done}
 use Rattle.layers.specs.Fill.{levelIn, halves, odd, unless, turnsBy}
 use Rattle.layers.specs.Write.{hasLevel, goneTo}
-use Rattle.layers.proofs.Turns.{keep-append}
 
 -- ---- one move
 

@@ -5,33 +5,17 @@ use Prim.Native.Nat.{ℕ, zero, suc, _+_, _*_, _/_, _%_, _^_, _≤_, _<_}
 use native.Mathlib.Omega.{arith}
 use mathlib.Core.Path.{_≡_, refl}
 use mathlib.Core.Bool.{Bool, true, false, not}
-use mathlib.Core.List.{List, [], _∷_, _++_, append-assoc}
+use mathlib.Core.List.{List, [], _∷_, _++_}
 use lib.Dec.{eqb}
 use borrow.Author.Tests.{ne-eqb}
-use Rattle.lists.specs.Lists.{range, sumTo, only, keep, anyOf, each}
+use Rattle.lists.specs.Lists.{range, sumTo, only, keep, anyOf}
+use Rattle.lists.proofs.Ranges.{keep-each, each-same}
 use Rattle.hall.specs.Hall.{Hall}
 use Rattle.hall.specs.Moves.{onGrid, cellAt, rowAfter, colAfter, landing, reachFrom, reach, moveCount}
 use Rattle.routes.specs.Bars.{barsCell, barsWay, mayStand, mayTurn}
 use Rattle.routes.specs.declared.Bar.{Bar}
 use Rattle.marks.specs.Marks.{barsMove, digit, markOf}
 use Rattle.layers.specs.Fill.{halves, odd, unless, turnsBy, mayBegin}
-
--- ---- what is kept of joined lists
-
-pub keep-append : (p : ℕ → Bool) (xs ys : List ℕ) → keep p (xs ++ ys) ≡ keep p xs ++ keep p ys
-unfolding keep
-keep-append p [] ys = refl
-keep-append p (x ∷ xs) ys = rw (keep-append p xs ys, append-assoc)
-
-pub keep-each : (p : ℕ → Bool) (f : ℕ → List ℕ) (ms : List ℕ) → keep p (each f ms) ≡ each (λ m. keep p (f m)) ms
-unfolding each keep
-keep-each p f [] = refl
-keep-each p f (m ∷ ms) = rw (keep-append p (f m) (each f ms), keep-each p f ms)
-
-pub each-range : (f g : ℕ → List ℕ) (a n : ℕ) → ((m : ℕ) → a ≤ m → m < a + n → f m ≡ g m) → each f (range a n) ≡ each g (range a n)
-unfolding each range
-each-range f g a zero h = refl
-each-range f g a (suc n) h = rw (h a (omega arith) (omega arith), each-range f g (suc a) n (λ m l k. h m (omega arith) (omega arith)))
 
 -- ---- the digits of a mark
 
@@ -120,7 +104,7 @@ module _ (hall : Hall) (bars : List Bar) (t v : ℕ) where
   unfolding turnsBy mayTurn reach reachFrom landing barsMove
   mark-turns e =
       rw (mark-moves e, keep-each (λ w. not (anyOf (barsWay t v w) bars)) (landing (hall .width) (hall .height) (v / hall .width) (v % hall .width)) (range 0 moveCount))
-      (each-range
+      (each-same
       (λ m. unless (odd (halves m (marked (barsMove (hall .width) (hall .height) bars t v)))) (landing (hall .width) (hall .height) (v / hall .width) (v % hall .width) m))
       (λ m. keep (λ w. not (anyOf (barsWay t v w) bars)) (landing (hall .width) (hall .height) (v / hall .width) (v % hall .width) m))
       0 moveCount

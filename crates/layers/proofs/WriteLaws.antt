@@ -22,7 +22,8 @@ use Rattle.routes.specs.Bars.{mayStand, mayTurn}
 use Rattle.routes.specs.Best.{bestWay}
 use Rattle.routes.specs.declared.Bar.{Bar}
 use Rattle.routes.proofs.Bars.{turn-reaches, mayTurn-rises}
-use Rattle.routes.proofs.Way.{Finds, Runs, Right, bestWay-right}
+use Rattle.routes.proofs.Finding.{Finds}
+use Rattle.routes.proofs.Way.{Runs, Right, bestWay-right}
 use Rattle.marks.specs.Marks.{markOf}
 use Rattle.marks.specs.Post.{Layered}
 use Rattle.marks.proofs.Places.{whole-small}

@@ -29,8 +29,6 @@ const CROSSING: usize = 128;
 // The mark of a cell that a bar forbids.
 const BARRED: usize = 255;
 
-const MOVE_COUNT: usize = 5;
-
 // What seeking a route finds: none, or one of this cost.
 pub enum Sought {
     Nothing,
@@ -108,7 +106,7 @@ fn least_on(
     let mut least = NO_WAY;
     let mut rest = mark;
     let mut m = 0;
-    while m < MOVE_COUNT {
+    while m < hall::MOVE_COUNT {
         least = lesser(
             least,
             free_level(layers, width, height, next, row, col, m, rest),
@@ -266,7 +264,7 @@ fn edge_mark(width: usize, height: usize, row: usize, col: usize) -> u8
 {
     let mut mark = 0;
     let mut m = 0;
-    while m < MOVE_COUNT {
+    while m < hall::MOVE_COUNT {
         mark += edge_digit(width, height, row, col, m);
         m += 1;
     }
@@ -325,7 +323,7 @@ fn least_near(layers: &[u8], width: usize, under: usize, mark: u8, floor: u8) ->
     let mut rest = mark;
     let mut shut = floor;
     let mut m = 0;
-    while m < MOVE_COUNT {
+    while m < hall::MOVE_COUNT {
         least = lesser_byte(least, near_level(layers, width, under, m, rest, shut));
         rest = rest / 2;
         shut = shut / 2;
@@ -621,7 +619,7 @@ fn step_on(layers: &[u8], width: usize, height: usize, t: usize, v: usize, mark:
     let col = v % width;
     let mut rest = mark;
     let mut m = 0;
-    while m < MOVE_COUNT {
+    while m < hall::MOVE_COUNT {
         let l = goes_by(layers, width, height, next, target, row, col, m, rest);
         match l {
             Landing::Cell(w) => {

@@ -17,18 +17,7 @@ const SPACE: u8 = 32;
 
 const NEWLINE: u8 = 10;
 
-// As many carriers and as late a horizon as an accepted job can have.
-const MOST_CARRIERS: usize = 8;
-
-const MOST_HORIZON: usize = 63;
-
-// The kinds of a book's bodies, and where the hall bytes begin in the first.
-const HALL: u8 = 1;
-
-const CARRIERS: u8 = 2;
-
-const LIMITS: u8 = 3;
-
+// Where the hall bytes begin in a book's first body.
 const HALL_AT: usize = 2;
 
 // A word, a number and the end of the line.
@@ -116,10 +105,10 @@ fn put_carriers(out: &mut [u8], at: usize, team: Team, h: usize, output: &[u8]) 
 fn put_team(out: &mut [u8], at: usize, team: Team, h: usize, output: &[u8]) -> usize
     ensures { λ r. ⌜ page (now (out .exit)) r ≡ put (page (now (out .entry)) at) (carriersText team h (now (output .entry))) ⌝ }
 {
-    if MOST_CARRIERS < team.count {
+    if job::MOST_CARRIERS < team.count {
         return at;
     }
-    if MOST_HORIZON < h {
+    if job::MOST_HORIZON < h {
         return at;
     }
     if output.len() < team.count * (h + 1) {
@@ -214,9 +203,9 @@ fn job_lines(
 ) -> usize
     ensures { λ r. ⌜ Printed (resultText (now (book .entry)) (planned (jobIn (now (book .entry))) n (record { columns = now (columns .entry); plans = now (plans .entry); layers = now (layers .entry); output = now (output .entry) }))) (planned (jobIn (now (book .entry))) n (record { columns = now (columns .entry); plans = now (plans .entry); layers = now (layers .entry); output = now (output .entry) }) .tables) (now (out .entry)) r (record { columns = now (columns .exit); plans = now (plans .exit); layers = now (layers .exit); output = now (output .exit) }) (now (out .exit)) ⌝ }
 {
-    let hall = book::body(book, HALL);
-    let team = carriers::team_of_bytes(book::body(book, CARRIERS));
-    let limits = book::body(book, LIMITS);
+    let hall = book::body(book, book::HALL);
+    let team = carriers::team_of_bytes(book::body(book, book::CARRIERS));
+    let limits = book::body(book, book::LIMITS);
     let width = number_at(hall, 0);
     let height = number_at(hall, 1);
     let k = number_at(limits, 0);

@@ -1,4 +1,9 @@
-pub mod Bools
 pub mod Every
+pub mod Loops
 pub mod Members
+pub mod Orders
+pub mod Parts
+pub mod Passing
+pub mod Ranges
 pub mod Sums
+pub mod Tests

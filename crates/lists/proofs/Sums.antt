@@ -1,7 +1,9 @@
--- Laws of sums and counts: termwise bounds, and that a count falls where one that passed passes no more. Assumes nothing.
-use Prim.Native.Nat.{ℕ, zero, suc, _+_, _≤_, _<_}
+-- Laws of sums and counts: termwise bounds, weights of lists put together, and that a count falls where one that passed passes no
+-- more. Assumes nothing.
+use Prim.Native.Nat.{ℕ, zero, suc, _+_, _*_, _≤_, _<_}
+use native.Mathlib.Nat.{suc-mul}
 use native.Mathlib.Omega.{arith}
-use mathlib.Core.Path.{_≡_, refl, sym, ap, subst, _∙_}
+use mathlib.Core.Path.{_≡_, refl, subst}
 use mathlib.Core.Logic.{⊎-elim}
 use mathlib.Core.Bool.{Bool, true, false}
 use mathlib.Core.List.{List, [], _∷_, _++_, List·Memᴰ, List·Memᴰ·not-nil, List·Memᴰ·cases-cons}
@@ -24,6 +26,25 @@ sum-same (suc n) f g h =
     let a : sumTo n f ≡ sumTo n g = sum-same n f g (λ i l. h i (omega arith)) in
     let b : f n ≡ g n = h n (omega arith) in
     omega arith
+
+pub sum-at-most : (n size : ℕ) (f : ℕ → ℕ) → ((i : ℕ) → i < n → f i ≤ size) → sumTo n f ≤ n * size
+unfolding sumTo
+sum-at-most zero size f h = omega arith
+sum-at-most (suc n) size f h =
+    let a : sumTo n f ≤ n * size = sum-at-most n size f (λ i l. h i (omega arith)) in
+    let b : f n ≤ size = h n (omega arith) in
+    rw suc-mul (omega arith)
+
+-- the weights of all, added up
+module _ {A : Type 0} (weight : A → ℕ) where
+  unfoldable pub totalOf : List A → ℕ
+  totalOf [] = 0
+  totalOf (x ∷ xs) = weight x + totalOf xs
+
+  pub total-append : (xs ys : List A) → totalOf (xs ++ ys) ≡ totalOf xs + totalOf ys
+  unfolding totalOf
+  total-append [] ys = omega arith
+  total-append (x ∷ xs) ys = omega (arith, total-append xs ys)
 
 module _ {A : Type 0} where
   -- how many pass

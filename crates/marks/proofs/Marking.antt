@@ -8,7 +8,7 @@ use mathlib.Core.List.{List, [], _∷_}
 use borrow.Author.Tests.{eq-eqb, ne-eqb, le-leb}
 use lib.Dec.{eqb, leb, eqb→eq, leb→le}
 use Rattle.lists.specs.Lists.{only, anyOf, sumTo}
-use Rattle.lists.proofs.Bools.{is-false, and-both}
+use Rattle.lists.proofs.Tests.{is-false, and-both}
 use Rattle.hall.specs.Moves.{rowAfter, colAfter, onGrid, cellAt, landing, moveCount}
 use Rattle.routes.specs.Bars.{barsCell, barsWay}
 use Rattle.routes.specs.declared.Bar.{Bar}

@@ -8,9 +8,12 @@ use mathlib.Core.Bool.{false}
 use mathlib.Core.List.{List, [], _∷_, _++_, List·Memᴰ, List·Memᴰ·head, List·Memᴰ·tail, Memᴰ·append-right}
 use lib.Dec.{T, eqb, eqb→eq}
 use Rattle.lists.specs.Lists.{range, each}
-use Rattle.lists.proofs.Bools.{is-false, of-true}
+use Rattle.lists.proofs.Every.{every-member}
+use Rattle.lists.proofs.Members.{member-each, member-range}
+use Rattle.lists.proofs.Orders.{Ordered, Rising}
+use Rattle.lists.proofs.Passing.{any-member}
+use Rattle.lists.proofs.Tests.{is-false, of-true}
 use Rattle.hall.specs.Moves.{landing, moveCount, reachFrom, reach}
-use Rattle.hall.proofs.Lists.{every-member, member-each, member-range, anyOf-member, Ordered, Rising}
 use Rattle.hall.proofs.Reach.{reach-rises}
 use Rattle.marks.specs.Post.{MoveTo, leads}
 
@@ -44,7 +47,7 @@ each-rises f a (suc n) o i j x y h k l p q =
 module _ (width height from to : ℕ) where
   leads-lands : (m : ℕ) → T (leads width height from to m) → List·Memᴰ to (landing width height (from / width) (from % width) m)
   leads-lands m h =
-      let (w, n, e) = anyOf-member (eqb to) (landing width height (from / width) (from % width) m) h in
+      let (w, n, e) = any-member (eqb to) (landing width height (from / width) (from % width) m) h in
       subst (λ x. List·Memᴰ x (landing width height (from / width) (from % width) m)) (sym (eqb→eq to w e)) n
 
   lands-once : (i j : ℕ) → i < j → j < moveCount → T (leads width height from to i) → T (leads width height from to j) → ⊥

@@ -13,9 +13,6 @@ ghost use Rattle.marks.specs.Post.{Layered, Cleared, MarkedMore, MarkedA
 // The mark of a cell that is barred at a step.
 pub const BARRED: u8 = 255;
 
-// How many moves a carrier has; move m has the binary digit 2 ^ m of a mark.
-const MOVE_COUNT: usize = 5;
-
 // The first n bytes to zero.
 fn clear(layers: &mut [u8], n: usize)
     requires { ⌜ n ≤ length (now layers) ⌝ }
@@ -83,7 +80,7 @@ fn with_digit(mark: u8, m: usize) -> u8
     mark
 }
 
-// The move that leads from one cell to another, or MOVE_COUNT where none does.
+// The move that leads from one cell to another, or hall::MOVE_COUNT where none does.
 fn move_to(width: usize, height: usize, from: usize, to: usize) -> usize
     requires { ⌜ (1 ≤ width) × (width ≤ 16) × (height ≤ 16) × (from < 256) ⌝ }
     ensures { λ r. ⌜ MoveTo width height from to r ⌝ }
@@ -91,7 +88,7 @@ fn move_to(width: usize, height: usize, from: usize, to: usize) -> usize
     let row = from / width;
     let col = from % width;
     let mut m = 0;
-    while m < MOVE_COUNT {
+    while m < hall::MOVE_COUNT {
         if hall::lands_on(width, height, row, col, m, to) {
             return m;
         }
@@ -121,7 +118,7 @@ fn mark_cross(
         return;
     }
     let m = move_to(width, height, from, to);
-    if MOVE_COUNT <= m {
+    if hall::MOVE_COUNT <= m {
         return;
     }
     let place = step * size + from;

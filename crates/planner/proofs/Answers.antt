@@ -11,9 +11,9 @@ use denote.Enum.Declared.{tagOf}
 use types.Run.{OneOf, miss}
 use lib.Dec.{T, ltb, eqb}
 use lib.ListN.{length, getD}
-use Rattle.lists.proofs.Bools.{is-true, and-both}
+use Rattle.lists.proofs.Tests.{is-true, and-both, or-fails}
 use Rattle.hall.specs.Hall.{Hall, size, isOpen}
-use Rattle.hall.proofs.Tests.{or-fails}
+use Rattle.hall.proofs.HallCode.{area-small}
 use Rattle.job.specs.Job.{Job, wrongCapacity}
 use Rattle.job.specs.Verdict.{judgeWith, ifAccepted}
 use Rattle.job.specs.declared.Verdict.{Verdict}
@@ -36,11 +36,8 @@ use Rattle.planner.proofs.Promises.{planned-promised}
 pub plans-small : (count h capacity : ℕ) → count ≤ 8 → h ≤ 63 → capacity ≤ 1024 → capacity * (count * (h + 1)) ≤ 524288
 plans-small count h capacity l k m = let n : h + 1 ≤ 64 = omega arith in mul-le-mul m (mul-le-mul l n)
 
-pub grid-small : (width height : ℕ) → width ≤ 16 → height ≤ 16 → width * height ≤ 256
-grid-small width height l k = mul-le-mul l k
-
 pub layers-small : (width height h : ℕ) → width ≤ 16 → height ≤ 16 → h ≤ 63 → (h + 1) * (width * height) ≤ 16384
-layers-small width height h l k m = let n : h + 1 ≤ 64 = omega arith in mul-le-mul n (grid-small width height l k)
+layers-small width height h l k m = let n : h + 1 ≤ 64 = omega arith in mul-le-mul n (area-small l k)
 
 module _ (task : Task) (ts : Tables) where
   pub short-columns : length (ts .columns) < 8 * task .capacity → true ≡ shortTable (jobIn task) (task .capacity) ts

@@ -2,34 +2,30 @@
 -- A chosen clash names carriers and steps that there are. Assumes nothing.
 use Prim.Native.Nat.{ℕ, _+_, _-_, _*_, _≤_, _<_}
 use native.Mathlib.Omega.{arith}
-use native.Mathlib.Nat.{mul-le-mul}
 use mathlib.Core.Path.{_≡_, refl, sym, ap, subst, _∙_}
 use mathlib.Core.List.{List}
 use lib.ListN.{length, getD, take, drop}
 use lib.Seq.{getD-take, getD-drop}
 use Rattle.job.specs.Job.{Job, planLength, slipOf, mostSlip}
-use Rattle.routes.specs.Route.{cellOf, cost, routeIn}
-use Rattle.lists.specs.Lists.{sumTo}
+use Rattle.routes.specs.Route.{cellOf, routeIn}
+use Rattle.lists.proofs.Parts.{part-within}
 use Rattle.clashes.specs.Chosen.{chosen}
 use Rattle.clashes.specs.Find.{cellIn, firstClash}
 use Rattle.clashes.specs.declared.Clash.{Clash}
 use Rattle.clashes.specs.declared.Clash.the-variants.{Meeting, Swap}
 use Rattle.clashes.proofs.Chosen.{ChosenFact, chosen-fact}
 use Rattle.clashes.proofs.Same.{chosen-same}
-use Rattle.tree.specs.Plan.{cellsOf, total}
+use Rattle.tree.specs.Plan.{cellsOf}
 use Rattle.tree.specs.Tree.{Node, clashOf}
 use Rattle.tables.specs.State.{routesIn, stretchAt, nodeAt, Sound}
-use Rattle.tables.proofs.Costs.{part-within, route-in, total-in}
+use Rattle.tables.proofs.Costs.{route-in}
 use Rattle.tables.proofs.Stretches.{route-at}
 use Rattle.planner.specs.declared.Bars.{Bars}
 use Rattle.children.specs.declared.Task.{Task}
 use Rattle.children.specs.Steps.{jobOn, Ready, BarSet}
 use Rattle.planner.specs.Steps.{jobIn, Placed, stayBars, crossBars, BarsFit}
 
--- ---- small numbers
-
-pub stretch-small : (count h : ℕ) → count ≤ 8 → h ≤ 63 → count * (h + 1) ≤ 512
-stretch-small count h l k = let m : h + 1 ≤ 64 = omega arith in mul-le-mul l m
+-- ---- where a node stands in the plans
 
 pub placed : (task : Task) (bytes layers columns plans : List ℕ) (made x : ℕ) → Ready task bytes layers → Sound (jobOn task bytes) (task .capacity) columns plans made → x < made → Placed task plans x
 placed task bytes layers columns plans made x ready sound l =
@@ -66,7 +62,7 @@ module _ (task : Task) (bars : Bars) (i j : ℕ) (one-in : i < task .team .count
 -- ---- cells
 
 module _ (job : Job) where
-  pub cell-at : (plans : List ℕ) (x i t : ℕ) → i < job .count → t ≤ job .horizon → getD plans (x * planLength job + i * (job .horizon + 1) + t) 0 ≡ cellsOf (routesIn job (stretchAt job plans x)) i t
+  cell-at : (plans : List ℕ) (x i t : ℕ) → i < job .count → t ≤ job .horizon → getD plans (x * planLength job + i * (job .horizon + 1) + t) 0 ≡ cellsOf (routesIn job (stretchAt job plans x)) i t
   cell-at plans x i t l k =
       sym (ap (λ (r : List ℕ). cellOf r t) (route-in job (stretchAt job plans x) i l ∙ route-at job plans x i l)
       ∙ getD-take (job .horizon + 1) (drop (x * planLength job + i * (job .horizon + 1)) plans) t 0 (omega arith)

@@ -3,21 +3,20 @@
 use Prim.Native.Nat.{ℕ, _≤_, _<_}
 use native.Mathlib.Omega.{arith}
 use native.Mathlib.Decide.{decLe}
-use mathlib.Core.Path.{_≡_, refl, sym, ap, subst, _∙_}
-use mathlib.Core.Bool.{Bool, true, false, _||_}
+use mathlib.Core.Path.{_≡_, refl}
+use mathlib.Core.Bool.{Bool, true, false}
 use mathlib.Core.Option.{Option, none, some}
-use lib.Dec.{T, eqb, ltb}
+use lib.Dec.{eqb, ltb}
 use borrow.Author.Tests.{eqb-false}
-use Rattle.lists.proofs.Bools.{is-false, of-false, or-left}
+use Rattle.lists.proofs.Tests.{is-false, of-false, or-left}
 use Rattle.job.specs.Job.{Job, wrongCapacity}
 use Rattle.job.specs.Verdict.{judgeWith, ifAccepted}
 use Rattle.job.specs.declared.Verdict.{Verdict}
 use Rattle.job.specs.declared.Verdict.the-variants.{Accepted, WrongGrid, WrongBytes, WrongLimits, WrongCount, WrongEnds, SharedEnds}
 use Rattle.job.proofs.Accepted.{accepted-facts}
 use Rattle.search.specs.Search.{Outcome, done, full}
-use Rattle.tree.specs.Plan.{Routes}
 use Rattle.tree.specs.Tree.{Node, tree}
-use Rattle.tree.specs.Promises.{NoneExists, Need}
+use Rattle.tree.specs.Promises.{Need}
 use Rattle.tree.proofs.Promises.{tree-least, tree-none, tree-need}
 use Rattle.tables.specs.Tables.{Tables, shortTable, workedOn, withPlan}
 use Rattle.planner.specs.Answer.{Result, searched, enough, planned}

@@ -1,6 +1,6 @@
 -- Document 01, 'Numbers given back', 0 to 9, and what every lent table holds afterwards.
 use Prim.Native.Nat.{ℕ}
-use mathlib.Core.Bool.{Bool, true, false}
+use mathlib.Core.Bool.{true, false}
 use mathlib.Core.Option.{none, some}
 use Rattle.job.specs.Job.{Job, wrongCapacity}
 use Rattle.job.specs.Told.{bare, counted}

@@ -1,10 +1,10 @@
 -- Document 01, 'Jobs worked by hand': the eleven marked ★ for proof, one table. The law `stars-hold` is the claim.
 -- 'Cells all open; k is 0 and N is 128 where not given'.
-use Prim.Native.Nat.{ℕ, _+_, _*_}
-use mathlib.Core.List.{List, [], _∷_, _++_}
+use Prim.Native.Nat.{ℕ, _*_}
+use mathlib.Core.List.{List, [], _∷_}
 use lib.ListN.{length, getD, replicate}
 use Rattle.lists.specs.Lists.{each}
-use Rattle.hall.specs.Hall.{Hall, size, openByte}
+use Rattle.hall.specs.Hall.{openByte}
 use Rattle.job.specs.Job.{Job, planLength}
 use Rattle.job.specs.Told.{counted}
 use Rattle.job.specs.declared.Told.{Told}

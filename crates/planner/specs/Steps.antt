@@ -2,18 +2,16 @@
 -- contract of `plan` speaks of document 01's definitions alone.
 use Prim.Native.Nat.{ℕ, _+_, _-_, _*_, _≤_, _<_}
 use mathlib.Core.Path.{_≡_}
-use mathlib.Core.Bool.{Bool, true, false}
+use mathlib.Core.Bool.{true, false}
 use mathlib.Core.List.{List, [], _++_}
 use mathlib.Core.Option.{none, some}
-use lib.ListN.{length, getD, set}
+use lib.ListN.{length, set}
 use Rattle.job.specs.Job.{Job, planLength}
-use Rattle.job.specs.Team.{jobOf}
 use Rattle.routes.specs.Bars.{Barred}
 use Rattle.routes.specs.declared.Bar.the-variants.{Stay, Cross}
-use Rattle.marks.specs.Marks.{SameFrom}
 use Rattle.search.specs.Search.{Outcome, done, full}
 use Rattle.search.proofs.From.{runFrom}
-use Rattle.tree.specs.Tree.{Node, root, nodeSum, nodeClear, kids, child, tree}
+use Rattle.tree.specs.Tree.{Node, nodeSum, nodeClear, kids, child, tree}
 use Rattle.tree.specs.Plan.{total}
 use Rattle.tables.specs.State.{routesIn, stretchAt, nodeAt, live, Sound}
 use Rattle.tables.specs.Tables.{Tables, columnsLength, plansLength, layersLength, zeroed, planWritten}

@@ -52,8 +52,6 @@ pub enum End {
     Full,
 }
 
-const RECORD_COLUMNS: usize = 8;
-
 // One child more, and the turn goes on.
 fn add_one(
     hall: &[u8],
@@ -304,7 +302,7 @@ fn clear_all(task: Task, columns: &mut [u16], plans: &mut [u8], layers: &mut [u8
     ensures { λ r. ⌜ Cleared task (now (columns .entry)) (now (plans .entry)) (now (layers .entry)) (now (columns .exit)) (now (plans .exit)) (now (layers .exit)) ⌝ }
 {
     let capacity = task.capacity;
-    tables::clear_words(columns, RECORD_COLUMNS * capacity);
+    tables::clear_words(columns, tables::COLUMNS * capacity);
     tables::clear_bytes(plans, capacity * children::stretch_of(task));
     tables::clear_bytes(layers, (task.horizon + 1) * (task.width * task.height));
 }
@@ -333,7 +331,7 @@ fn short_table(task: Task, columns: &[u16], plans: &[u8], layers: &[u8], output:
     ensures { λ r. ⌜ r ≡ shortTable (jobIn task) (task .capacity) (record { columns = now (columns .entry); plans = now (plans .entry); layers = now (layers .entry); output = now (output .entry) }) ⌝ }
 {
     let size = children::stretch_of(task);
-    if columns.len() < RECORD_COLUMNS * task.capacity {
+    if columns.len() < tables::COLUMNS * task.capacity {
         return true;
     }
     if plans.len() < task.capacity * size {

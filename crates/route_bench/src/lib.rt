@@ -11,12 +11,6 @@ const NO_ROUTE: usize = 255;
 
 const REFUSED: usize = 254;
 
-const LONGEST_SIDE: usize = 16;
-
-const LAST_HORIZON: usize = 63;
-
-const MOST_NODES: usize = 1024;
-
 const COLUMN_COUNT: usize = 8;
 
 // One more than the greatest cell number.
@@ -28,13 +22,13 @@ fn right_floor(hall: &[u8], width: usize, height: usize, start: usize) -> bool
     if width < 1 {
         return false;
     }
-    if LONGEST_SIDE < width {
+    if hall::MOST_SIDE < width {
         return false;
     }
     if height < 1 {
         return false;
     }
-    if LONGEST_SIDE < height {
+    if hall::MOST_SIDE < height {
         return false;
     }
     if hall.len() != width * height {
@@ -61,7 +55,7 @@ fn parents_fall(columns: &[u16], capacity: usize, node: usize) -> bool
 fn right_records(columns: &[u16], capacity: usize, node: usize) -> bool
     ensures { λ r. ⌜ Tells (Falls capacity (now (columns .entry)) node) r ⌝ }
 {
-    if MOST_NODES < capacity {
+    if job::MOST_RECORDS < capacity {
         return false;
     }
     if columns.len() < COLUMN_COUNT * capacity {
@@ -77,7 +71,7 @@ fn right_room(size: usize, h: usize, layers: &[u8], stretch: &[u8]) -> bool
     requires { ⌜ size ≤ 256 ⌝ }
     ensures { λ r. ⌜ Tells (RightRoom size h (now (layers .entry)) (now (stretch .entry))) r ⌝ }
 {
-    if LAST_HORIZON < h {
+    if job::MOST_HORIZON < h {
         return false;
     }
     if layers.len() < (h + 1) * size {

@@ -1,21 +1,22 @@
 -- Laws of bars: which bind a carrier when one more is set, what it is to obey one more, and that a route obeys a bar or breaks
 -- it at a step that can be named. Assumes nothing.
-use Prim.Native.Nat.{ℕ, zero, suc, _+_, _≤_, _<_}
+use Prim.Native.Nat.{ℕ, suc, _+_, _≤_, _<_}
 use native.Mathlib.Omega.{arith}
 use native.Mathlib.Decide.{ℕ-discrete, decLt}
-use mathlib.Core.Path.{_≡_, refl, sym, ap, subst, _∙_}
+use mathlib.Core.Path.{_≡_, refl, sym, subst}
 use mathlib.Core.Logic.{_⊎_, inl, inr, ⊎-elim}
-use mathlib.Core.Bool.{Bool, true, false, _&&_}
-use mathlib.Core.List.{List, [], _∷_, _++_, List·Memᴰ, List·Memᴰ·not-nil, List·Memᴰ·cases-cons}
+use mathlib.Core.Bool.{Bool, _&&_}
+use mathlib.Core.List.{List, [], _∷_, List·Memᴰ, List·Memᴰ·not-nil, List·Memᴰ·cases-cons}
 use borrow.Author.Tests.{eq-eqb, ne-eqb}
-use lib.Dec.{T, leb, eqb, le→leb, leb→le, eqb→eq, eqb-refl}
+use lib.Dec.{T, leb, eqb, le→leb, leb→le, eqb→eq}
 use Rattle.lists.specs.Lists.{range, only, anyOf}
-use Rattle.lists.proofs.Bools.{either, and-both, both-and}
-use Rattle.lists.proofs.Members.{any-has, has-any, has-range, range-has}
+use Rattle.lists.proofs.Tests.{either, and-both, both-and, eq-test}
+use Rattle.lists.proofs.Members.{range-member, member-range}
+use Rattle.lists.proofs.Passing.{any-member, member-any}
 use Rattle.routes.specs.Route.{cellOf}
 use Rattle.routes.specs.Bars.{Barred, barsFor, ObeysBar, Obeys}
 use Rattle.routes.specs.declared.Bar.{Bar}
-use Rattle.routes.specs.declared.Bar.the-variants.{Free, Stay, Cross}
+use Rattle.routes.specs.declared.Bar.the-variants.{Stay, Cross}
 
 -- ---- which bars bind
 
@@ -56,18 +57,18 @@ obeys-or-visits h r v a b = go (either (anyOf (visits-at r v a b) (range 0 (suc 
   where
     found : T (anyOf (visits-at r v a b) (range 0 (suc h))) → Visits h r v a b
     found f =
-        let (t, m, p) = any-has (visits-at r v a b) (range 0 (suc h)) f in
+        let (t, m, p) = any-member (visits-at r v a b) (range 0 (suc h)) f in
         let (e, q) = and-both (eqb (cellOf r t) v) (leb a t && leb t b) p in
         let (x, y) = and-both (leb a t) (leb t b) q in
-        let w = range-has 0 (suc h) t m in
+        let w = range-member 0 (suc h) m in
         record { step = t; after = leb→le a t x; before = leb→le t b y; inside = omega arith; there = eqb→eq (cellOf r t) v e }
 
     go : T (anyOf (visits-at r v a b) (range 0 (suc h))) ⊎ (T (anyOf (visits-at r v a b) (range 0 (suc h))) → ⊥) → ObeysBar h r (Stay v a b) ⊎ Visits h r v a b
     go (inl f) = inr (found f)
     go (inr n) =
         inl (λ t l k w e.
-        n (has-any (visits-at r v a b) (range 0 (suc h)) t (has-range 0 (suc h) t (omega arith) (omega arith))
-        (both-and (eqb (cellOf r t) v) (leb a t && leb t b) (subst (λ (c : ℕ). T (eqb (cellOf r t) c)) e (eqb-refl (cellOf r t)))
+        n (member-any (visits-at r v a b) (range 0 (suc h)) (member-range {x = t} 0 (suc h) (omega arith) (omega arith))
+        (both-and (eqb (cellOf r t) v) (leb a t && leb t b) (eq-test (cellOf r t) v e)
         (both-and (leb a t) (leb t b) (le→leb a t l) (le→leb t b k)))))
 
 -- the route goes from u to v between t and t + 1

@@ -21,7 +21,7 @@ step-lt true (suc c) zero h = absurd (omega arith)
 step-lt true (suc c) (suc d) h = omega arith
 step-lt false c d h = omega arith
 
-pub step-le : (b : Bool) (c d : ℕ) → c ≤ d → stepCost b c ≤ stepCost b d
+step-le : (b : Bool) (c d : ℕ) → c ≤ d → stepCost b c ≤ stepCost b d
 unfolding stepCost
 step-le true zero zero h = omega arith
 step-le true zero (suc d) h = omega arith
@@ -29,17 +29,13 @@ step-le true (suc c) zero h = absurd (omega arith)
 step-le true (suc c) (suc d) h = omega arith
 step-le false c d h = omega arith
 
-pub step-injective : (b : Bool) (c d : ℕ) → stepCost b c ≡ stepCost b d → c ≡ d
+step-injective : (b : Bool) (c d : ℕ) → stepCost b c ≡ stepCost b d → c ≡ d
 unfolding stepCost
 step-injective true zero zero e = refl
 step-injective true zero (suc d) e = absurd (omega arith)
 step-injective true (suc c) zero e = absurd (omega arith)
 step-injective true (suc c) (suc d) e = omega arith
 step-injective false c d e = omega arith
-
-pub front-lt : (goal v : ℕ) (r s : List ℕ) → cost goal r < cost goal s → cost goal (v ∷ r) < cost goal (v ∷ s)
-unfolding cost
-front-lt goal v r s h = step-lt (eqb v goal) (cost goal r) (cost goal s) h
 
 pub front-le : (goal v : ℕ) (r s : List ℕ) → cost goal r ≤ cost goal s → cost goal (v ∷ r) ≤ cost goal (v ∷ s)
 unfolding cost
@@ -63,7 +59,7 @@ step-rest true zero t h = omega arith
 step-rest true (suc c) t h = omega arith
 step-rest false c t h = omega arith
 
-step-most : (b : Bool) (c : ℕ) → stepCost b c ≤ suc c
+pub step-most : (b : Bool) (c : ℕ) → stepCost b c ≤ suc c
 unfolding stepCost
 step-most true zero = omega arith
 step-most true (suc c) = omega arith

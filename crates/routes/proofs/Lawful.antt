@@ -4,63 +4,33 @@
 use Prim.Native.Nat.{ℕ, zero, suc, _+_, _-_, _≤_, _<_}
 use mathlib.Core.Path.{_≡_, refl}
 use mathlib.Core.Logic.{_↔_, _⊎_, inl, inr}
-use mathlib.Core.Bool.{Bool, true, false, not, _&&_, _||_}
+use mathlib.Core.Bool.{false, not, _&&_}
 use mathlib.Core.List.{List, List·Memᴰ, Memᴰ·cast}
-use mathlib.Core.Option.{Option, none, some}
 use native.Mathlib.Numerals.{add-one}
 use native.Mathlib.Omega.{arith}
 use lib.Dec.{T, eqb, eqb→eq, eqb-refl, eqb·suc-zero, T-not}
 use lib.ListN.{length}
-use Rattle.lists.specs.Lists.{range, anyOf}
-use Rattle.hall.specs.Hall.{Hall, isOpen, wrongGrid, wrongBytes}
+use Rattle.lists.specs.Lists.{anyOf}
+use Rattle.lists.proofs.Passing.{any-member, member-any}
+use Rattle.lists.proofs.Tests.{and-both, both-and, or-either, or-left, or-right, is-false, of-false, passes, eq-test}
+use Rattle.hall.specs.Hall.{Hall, isOpen}
 use Rattle.hall.specs.Moves.{mayFollow}
-use Rattle.hall.proofs.Lists.{both, and-test, either, or-left, or-right, fails, failed, passes, eq-test, anyOf-member, member-anyOf, firstOf-none, member-range}
-use Rattle.job.specs.Job.{Job, wrongLimits, wrongCount, wrongEnds, firstWrong, firstShared}
-use Rattle.job.specs.Verdict.{refuseIf, endsVerdict, sharedVerdict, judgeWith, judge, IsAccepted}
-use Rattle.job.specs.declared.Verdict.{Verdict}
-use Rattle.job.specs.declared.Verdict.the-variants.{Accepted, WrongGrid, WrongBytes, WrongLimits, WrongCount}
+use Rattle.job.specs.Job.{Job}
+use Rattle.job.specs.Verdict.{judge, IsAccepted}
+use Rattle.job.proofs.Accepted.{accepted-facts}
 use Rattle.routes.specs.Route.{Lawful, cellOf}
 use Rattle.routes.specs.Check.{wrongMove, wrongArrival, wrongAt}
-
--- ---- an accepted job's starts and goals are open
-
-refused-not : (b : Bool) (v rest : Verdict) → (v ≡ Accepted → ⊥) → refuseIf b v rest ≡ Accepted → rest ≡ Accepted
-unfolding refuseIf
-refused-not true v rest n e = absurd (n e)
-refused-not false v rest n e = e
-
-ends-right : (o : Option ℕ) (rest : Verdict) → endsVerdict o rest ≡ Accepted → o ≡ none
-unfolding endsVerdict
-ends-right none rest e = refl
-ends-right (some i) rest e = let z : _≡_ {A = ℕ} 0 1 = cc in absurd (omega arith)
-
-accepted-ends : (job : Job) → IsAccepted job → firstWrong job ≡ none
-unfolding judge judgeWith
-accepted-ends job e =
-    ends-right (firstWrong job) (sharedVerdict (firstShared job))
-    (refused-not (wrongCount job) WrongCount _ (λ q. let z : _≡_ {A = ℕ} 0 1 = cc in omega arith)
-    (refused-not (wrongLimits job || false) WrongLimits _ (λ q. let z : _≡_ {A = ℕ} 0 1 = cc in omega arith)
-    (refused-not (wrongBytes (job .hall)) WrongBytes _ (λ q. let z : _≡_ {A = ℕ} 0 1 = cc in omega arith)
-    (refused-not (wrongGrid (job .hall)) WrongGrid _ (λ q. let z : _≡_ {A = ℕ} 0 1 = cc in omega arith) e))))
-
-pub accepted-opens : (job : Job) (i : ℕ) → IsAccepted job → i < job .count → T (isOpen (job .hall) (job .startOf i)) × T (isOpen (job .hall) (job .goalOf i))
-unfolding firstWrong wrongEnds
-accepted-opens job i e h =
-    let right : T (not (isOpen (job .hall) (job .startOf i)) || not (isOpen (job .hall) (job .goalOf i))) → ⊥ = firstOf-none (wrongEnds job) (range 0 (job .count)) (accepted-ends job e) (member-range 0 (job .count) (omega arith) (omega arith)) in (
-      passes (isOpen (job .hall) (job .startOf i)) (λ w. right (or-left (not (isOpen (job .hall) (job .startOf i))) (not (isOpen (job .hall) (job .goalOf i))) w)),
-      passes (isOpen (job .hall) (job .goalOf i)) (λ w. right (or-right (not (isOpen (job .hall) (job .startOf i))) (not (isOpen (job .hall) (job .goalOf i))) w)),
-    )
 
 -- ---- the tests of a step
 
 follow-passes : (hall : Hall) (u v : ℕ) → List·Memᴰ v (mayFollow hall u) → T (wrongMove hall u v) → ⊥
 unfolding wrongMove
-follow-passes hall u v m w = T-not (anyOf (eqb v) (mayFollow hall u)) w (member-anyOf (eqb v) (mayFollow hall u) m (eqb-refl v))
+follow-passes hall u v m w = T-not (anyOf (eqb v) (mayFollow hall u)) w (member-any (eqb v) (mayFollow hall u) m (eqb-refl v))
 
 passes-follow : (hall : Hall) (u v : ℕ) → (T (wrongMove hall u v) → ⊥) → List·Memᴰ v (mayFollow hall u)
 unfolding wrongMove
 passes-follow hall u v f =
-    let (x, m, t) = anyOf-member (eqb v) (mayFollow hall u) (passes (anyOf (eqb v) (mayFollow hall u)) f) in
+    let (x, m, t) = any-member (eqb v) (mayFollow hall u) (passes (anyOf (eqb v) (mayFollow hall u)) f) in
     Memᴰ·cast (eqb→eq v x t) m
 
 module _ (job : Job) (i : ℕ) where
@@ -79,22 +49,22 @@ module _ (job : Job) (i : ℕ) where
   right-at : (cell : ℕ → ℕ) (t : ℕ) → wrongAt job i cell t ≡ false → RightAt cell t
   unfolding wrongAt RightAt
   right-at cell t e = (
-    λ w. failed (wrongAt job i cell t) e (or-left (wrongArrival job i cell t) (eqb t (job .horizon) && not (eqb (cell t) (job .goalOf i))) w),
+    λ w. of-false e (or-left (wrongArrival job i cell t) (eqb t (job .horizon) && not (eqb (cell t) (job .goalOf i))) w),
     λ q. eqb→eq (cell t) (job .goalOf i)
         (passes (eqb (cell t) (job .goalOf i))
-        (λ w. failed (wrongAt job i cell t) e
+        (λ w. of-false e
         (or-right (wrongArrival job i cell t) (eqb t (job .horizon) && not (eqb (cell t) (job .goalOf i)))
-        (and-test (eqb t (job .horizon)) (not (eqb (cell t) (job .goalOf i))) (eq-test t (job .horizon) q) w)))),
+        (both-and (eqb t (job .horizon)) (not (eqb (cell t) (job .goalOf i))) (eq-test t (job .horizon) q) w)))),
   )
 
   at-right : (cell : ℕ → ℕ) (t : ℕ) → RightAt cell t → wrongAt job i cell t ≡ false
   unfolding wrongAt RightAt
-  at-right cell t f = fails (wrongAt job i cell t) (λ w. go (either (wrongArrival job i cell t) (eqb t (job .horizon) && not (eqb (cell t) (job .goalOf i))) w))
+  at-right cell t f = is-false (λ w. go (or-either (wrongArrival job i cell t) (eqb t (job .horizon) && not (eqb (cell t) (job .goalOf i))) w))
     where
       go : T (wrongArrival job i cell t) ⊎ T (eqb t (job .horizon) && not (eqb (cell t) (job .goalOf i))) → ⊥
       go (inl w) = f .0 w
       go (inr w) =
-          let b = both (eqb t (job .horizon)) (not (eqb (cell t) (job .goalOf i))) w in
+          let b = and-both (eqb t (job .horizon)) (not (eqb (cell t) (job .goalOf i))) w in
           T-not (eqb (cell t) (job .goalOf i)) (b .1) (eq-test (cell t) (job .goalOf i) (f .1 (eqb→eq t (job .horizon) (b .0))))
 
   module _ (r : List ℕ) where
@@ -123,5 +93,6 @@ module _ (job : Job) (i : ℕ) where
         right t h = right-at (cellOf r) t (f t h)
 
     pub right-everywhere-lawful : IsAccepted job → i < job .count → Lawful job i r ↔ ((length r ≡ job .horizon + 1) × ((t : ℕ) → t ≤ job .horizon → wrongAt job i (cellOf r) t ≡ false))
+    unfolding judge
     right-everywhere-lawful accepted h =
-        (λ f. (f .long, lawful-right-everywhere f), λ f. right-everywhere-is-lawful (accepted-opens job i accepted h .0) (f .0) (f .1))
+        (λ f. (f .long, lawful-right-everywhere f), λ f. right-everywhere-is-lawful (accepted-facts false job accepted .startOpen i h) (f .0) (f .1))

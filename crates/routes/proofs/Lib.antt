@@ -1,6 +1,7 @@
 pub mod Bars
 pub mod Binds
 pub mod Cost
+pub mod Finding
 pub mod Lawful
 pub mod Order
 pub mod Right

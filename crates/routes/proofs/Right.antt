@@ -2,8 +2,8 @@
 -- `mayTurn` from the start, step by step, and of these `bestWay` finds the best. There is but one such answer.
 -- Assumes nothing.
 use Prim.Native.Nat.{ℕ, zero, suc, _+_, _≤_, _<_}
-use mathlib.Core.Path.{_≡_, sym, subst}
-use mathlib.Core.List.{List, _∷_, List·Memᴰ, List·Memᴰ·head, List·Memᴰ·tail}
+use mathlib.Core.Path.{_≡_}
+use mathlib.Core.List.{List, List·Memᴰ}
 use mathlib.Core.Option.{Option, none, some}
 use native.Mathlib.Nat.{zero-add}
 use native.Mathlib.Numerals.{add-one}
@@ -14,25 +14,14 @@ use Rattle.hall.specs.Hall.{isOpen}
 use Rattle.hall.proofs.Reach.{follow-opens, follow-reaches, reach-follows}
 use Rattle.job.specs.Job.{Job}
 use Rattle.routes.specs.Route.{Lawful, cellOf}
-use Rattle.routes.specs.Bars.{ObeysBar, Obeys, mayStand, mayTurn}
+use Rattle.routes.specs.Bars.{Obeys, mayStand, mayTurn}
 use Rattle.routes.specs.Best.{Allowed, RightRoute, bestRoute}
 use Rattle.routes.specs.declared.Bar.{Bar}
 use Rattle.routes.proofs.Bars.{obeys-cell, obeys-way, tests-obey, stand-opens, stand-unbarred, unbarred-stand, turn-reaches, turn-unbarred, unbarred-turn, mayTurn-rises}
-use Rattle.routes.proofs.Way.{Finds, finds-same, finds-unique, Runs, Right, way-stands, way-turns, way-ends, steps-way, bestWay-right}
+use Rattle.routes.proofs.Finding.{Finds, finds-same, finds-unique}
+use Rattle.routes.proofs.Way.{Runs, Right, way-stands, way-turns, way-ends, steps-way, bestWay-right}
 
 -- ---- one bar more, one bar less
-
-pub allowed-fewer : (job : Job) (i : ℕ) (b : Bar) (bars : List Bar) (r : List ℕ) → Allowed job i (b ∷ bars) r → Allowed job i bars r
-unfolding Obeys
-allowed-fewer job i b bars r f = record { lawful = f .lawful; obeys = λ c m. f .obeys c (List·Memᴰ·tail m) }
-
-pub allowed-more : (job : Job) (i : ℕ) (b : Bar) (bars : List Bar) (r : List ℕ) → Allowed job i bars r → ObeysBar (job .horizon) r b → Allowed job i (b ∷ bars) r
-unfolding Obeys
-allowed-more job i b bars r f o = record { lawful = f .lawful; obeys = obeys }
-  where
-    obeys : (c : Bar) → List·Memᴰ c (b ∷ bars) → ObeysBar (job .horizon) r c
-    obeys c (List·Memᴰ·head e) = subst (ObeysBar (job .horizon) r) (sym e) o
-    obeys c (List·Memᴰ·tail m) = f .obeys c m
 
 -- a lawful route stands on open cells
 pub lawful-opens : (job : Job) (i : ℕ) (r : List ℕ) → Lawful job i r → (t : ℕ) → t ≤ job .horizon → T (isOpen (job .hall) (cellOf r t))
@@ -46,7 +35,7 @@ module _ (job : Job) (i : ℕ) (bars : List Bar) where
   abbrev pub Ways : List ℕ → Type 0
   Ways r = Runs (mayStand (job .hall) bars) (mayTurn (job .hall) bars) (job .goalOf i) (job .horizon) 0 (job .startOf i) r
 
-  pub allowed-runs : (r : List ℕ) → Allowed job i bars r → Ways r
+  allowed-runs : (r : List ℕ) → Allowed job i bars r → Ways r
   unfolding Obeys
   allowed-runs r f =
       let long : length r ≡ suc (job .horizon) = omega (arith, f .lawful .long) in
@@ -66,7 +55,7 @@ module _ (job : Job) (i : ℕ) (bars : List Bar) where
             });
       }
 
-  pub runs-allowed : (r : List ℕ) → Ways r → Allowed job i bars r
+  runs-allowed : (r : List ℕ) → Ways r → Allowed job i bars r
   unfolding Obeys
   runs-allowed r f =
       record {

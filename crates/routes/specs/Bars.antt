@@ -1,7 +1,7 @@
 -- Document 01, 'The search tree', rule 1: bars, what it is to obey them, and which of them bind a carrier.
 use Prim.Native.Nat.{ℕ, _+_, _≤_, _<_}
 use mathlib.Core.Path.{_≡_}
-use mathlib.Core.Bool.{Bool, true, false, not, _&&_}
+use mathlib.Core.Bool.{Bool, false, not, _&&_}
 use mathlib.Core.List.{List, [], _∷_, _++_, List·Memᴰ}
 use lib.Dec.{leb, eqb}
 use Rattle.lists.specs.Lists.{only, keep, anyOf}

@@ -1,7 +1,7 @@
 -- Document 01, 'Routes, costs, meetings': a route, its lawfulness and its cost.
 use Prim.Native.Nat.{ℕ, zero, suc, _+_, _*_, _<_}
 use mathlib.Core.Path.{_≡_}
-use mathlib.Core.Bool.{Bool, true, false, _&&_}
+use mathlib.Core.Bool.{Bool, true, false}
 use mathlib.Core.List.{List, [], _∷_, List·Memᴰ}
 use lib.Dec.{T, eqb}
 use lib.ListN.{length, getD, take, drop}

@@ -3,44 +3,23 @@
 -- Assumes nothing.
 use Prim.Native.Nat.{ℕ, zero, suc, _+_, _≤_, _<_}
 use mathlib.Core.Bool.{Bool, false}
-use mathlib.Core.List.{List, [], _∷_, _++_}
+use mathlib.Core.List.{List, _∷_, _++_}
 use mathlib.Core.Option.{Option, none, some}
 use mathlib.Core.Path.{_≡_}
 use native.Mathlib.Decide.{decLe}
 use native.Mathlib.Omega.{arith}
 use lib.ListN.{length}
 use Rattle.lists.specs.Lists.{Every}
+use Rattle.lists.proofs.Sums.{totalOf, total-append}
 use Rattle.search.specs.Search.{done, full, Taken, takeLeast, search}
 use Rattle.search.proofs.Goes.{Goes, goes-spent, goes-found, goes-full, goes-on, turn, turn-spent, turn-found, turn-kids, goes-search}
 use Rattle.search.proofs.Taken.{FirstLeast, some-first-least, taken-every, good-next}
 
-module _ {Node : Type 0} (weight : Node → ℕ) where
-  -- the weights of all, added up
-  unfoldable pub totalOf : List Node → ℕ
-  totalOf [] = 0
-  totalOf (n ∷ ns) = weight n + totalOf ns
-
-  pub total-append : (ms ns : List Node) → totalOf (ms ++ ns) ≡ totalOf ms + totalOf ns
-  unfolding totalOf
-  total-append [] ns = omega arith
-  total-append (m ∷ ms) ns = omega (arith, total-append ms ns)
-
-  total-taken : {sum : Node → ℕ} (live : List Node) (o : Taken Node) → FirstLeast sum live o → totalOf live ≡ weight (o .node) + totalOf (o .rest)
-  unfolding totalOf
-  total-taken live o f = rw (f .live-split, f .rest-split) (omega (arith, total-append (f .before) (o .node ∷ f .after), total-append (f .before) (f .after)))
+total-taken : {Node : Type 0} (weight : Node → ℕ) {sum : Node → ℕ} (live : List Node) (o : Taken Node) → FirstLeast sum live o → totalOf weight live ≡ weight (o .node) + totalOf weight (o .rest)
+unfolding totalOf
+total-taken weight live o f = rw (f .live-split, f .rest-split) (omega (arith, total-append weight (f .before) (o .node ∷ f .after), total-append weight (f .before) (f .after)))
 
 module _ {Node : Type 0} (sum : Node → ℕ) (clear : Node → Bool) (kids : Node → List Node) where
-  -- a room above both shows it: the search ends there with the one and with the other
-  pub need-unique : (roots : List Node) (need need' : ℕ) (answer answer' : Option Node)
-      → ((cap : ℕ) → length roots ≤ cap → need ≤ cap → search sum clear kids cap roots ≡ done answer need)
-      → ((cap : ℕ) → length roots ≤ cap → need' ≤ cap → search sum clear kids cap roots ≡ done answer' need')
-      → need ≡ need'
-  need-unique roots need need' answer answer' h h' =
-      let cap : ℕ = length roots + need + need' in
-      let one : search sum clear kids cap roots ≡ done answer need = h cap (omega arith) (omega arith) in
-      let other : search sum clear kids cap roots ≡ done answer' need' = h' cap (omega arith) (omega arith) in
-      cc (one, other)
-
   module _ (Good : Node → Type 0) (good-kids : (n : Node) → Good n → clear n ≡ false → Every Good (kids n)) (weight : Node → ℕ) (falls : (n : Node) → Good n → clear n ≡ false → totalOf weight (kids n) < weight n) where
     total-falls : (live : List Node) (o : Taken Node) → takeLeast sum clear kids live ≡ some o → clear (o .node) ≡ false → Every Good live → totalOf weight (o .rest ++ kids (o .node)) < totalOf weight live
     total-falls live o e c good =

@@ -13,7 +13,7 @@ use lib.Dec.{leb}
 use lib.ListN.{length, length-append}
 use Rattle.lists.specs.Lists.{Every, Any}
 use Rattle.search.specs.Search.{Taken, prefer, takeLeast}
-use Rattle.lists.proofs.Every.{every-map, every-append, every-taken, any-taken}
+use Rattle.lists.proofs.Every.{every-imply, every-append, every-taken, any-taken}
 
 -- o is what taking the first node of least sum from live gives
 pub record FirstLeast {Node : Type 0} (sum : Node → ℕ) (live : List Node) (o : Taken Node) : Type 0 where
@@ -34,7 +34,7 @@ module _ {Node : Type 0} {sum : Node → ℕ} {live : List Node} {o : Taken Node
   pub taken-least : Every (λ x. sum (o .node) ≤ sum x) live
   unfolding Every
   taken-least =
-      let low : Every (λ x. sum (o .node) ≤ sum x) (f .before) = every-map (λ x h. omega arith) (f .before) (f .above-before) in
+      let low : Every (λ x. sum (o .node) ≤ sum x) (f .before) = every-imply (λ x h. omega arith) (f .before) (f .above-before) in
       rw (f .live-split) (every-append (λ x. sum (o .node) ≤ sum x) (f .before) (o .node ∷ f .after) low (omega arith, f .least-after))
 
   pub taken-every : (P : Node → Type 0) → Every P live → P (o .node) × Every P (o .rest)
@@ -55,7 +55,7 @@ module _ {Node : Type 0} (sum : Node → ℕ) (clear : Node → Bool) (kids : No
         | true ↦
             λ e.
             let le : sum n ≤ sum (o .node) = leb-true (sum n) (sum (o .node)) e in
-            let low : Every (λ x. sum n ≤ sum x) ns = every-map (λ x h. omega arith) ns (taken-least f) in
+            let low : Every (λ x. sum n ≤ sum x) ns = every-imply (λ x h. omega arith) ns (taken-least f) in
             rw (e, prefer) (record { before = []; after = ns; live-split = refl; rest-split = refl; above-before = tt; least-after = low })
         | false ↦
             λ e.

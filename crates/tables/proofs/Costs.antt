@@ -6,16 +6,18 @@ use mathlib.Core.Path.{_≡_, refl, sym, ap, _∙_}
 use mathlib.Core.Bool.{Bool, true, false}
 use mathlib.Core.List.{List, [], _∷_, _++_, map}
 use native.Mathlib.Omega.{arith}
-use native.Mathlib.Nat.{suc-mul, mul-le-mul-right}
+use native.Mathlib.Nat.{suc-mul}
 use native.Mathlib.Numerals.{add-one}
 use borrow.Author.Tests.{eq-eqb, ne-eqb}
 use lib.Dec.{eqb}
 use lib.ListN.{length, getD, take, drop, length-take}
 use lib.Seq.{take-suc, take-length, take-add, take-all, drop-drop, length-take-le}
 use Rattle.lists.specs.Lists.{range, sumTo, each}
-use Rattle.lists.proofs.Sums.{sum-same}
+use Rattle.lists.proofs.Ranges.{getD-mapped}
+use Rattle.lists.proofs.Sums.{sum-same, sum-at-most}
 use Rattle.job.specs.Job.{Job, planLength}
 use Rattle.routes.specs.Route.{stepCost, cost, routeIn}
+use Rattle.routes.proofs.Cost.{step-most}
 use Rattle.tree.specs.Plan.{routeOf, total}
 use Rattle.tables.specs.State.{routesIn}
 
@@ -25,12 +27,6 @@ step-more : (b : Bool) (c : ℕ) → stepCost b (suc c) ≡ suc (suc c)
 unfolding stepCost
 step-more true c = refl
 step-more false c = refl
-
-step-most : (b : Bool) (c : ℕ) → stepCost b c ≤ suc c
-unfolding stepCost
-step-most true zero = omega arith
-step-most true (suc c) = omega arith
-step-most false c = omega arith
 
 last-on-goal : (goal v : ℕ) (r : List ℕ) → v ≡ goal → cost goal (r ++ v ∷ []) ≡ cost goal r
 unfolding cost stepCost
@@ -42,7 +38,7 @@ unfolding cost stepCost
 last-elsewhere goal v [] n = rw (ne-eqb v goal n) refl
 last-elsewhere goal v (u ∷ r) n = ap (stepCost (eqb u goal)) (last-elsewhere goal v r n) ∙ step-more (eqb u goal) (length r)
 
-pub cost-at-most : (goal : ℕ) (r : List ℕ) → cost goal r ≤ length r
+cost-at-most : (goal : ℕ) (r : List ℕ) → cost goal r ≤ length r
 unfolding cost
 cost-at-most goal [] = omega arith
 cost-at-most goal (v ∷ r) = omega (arith, step-most (eqb v goal) (cost goal r), cost-at-most goal r)
@@ -77,13 +73,6 @@ module _ (goal : ℕ) (route : List ℕ) where
 abbrev pub costIn : ℕ → List ℕ → List ℕ → ℕ → ℕ
 costIn h goals stretch i = cost (getD goals i 0) (routeIn h stretch i)
 
--- a part more within n parts
-pub part-within : (i n size : ℕ) → i < n → i * size + size ≤ n * size
-part-within i n size l = omega (arith, suc-mul i size, mul-le-mul-right size l)
-
-pub part-next : (i n size : ℕ) → i < n → (i + 1) * size ≤ n * size
-part-next i n size l = let e : i + 1 ≡ suc i = omega arith in rw e (mul-le-mul-right size l)
-
 pub costs-none : (h : ℕ) (goals stretch : List ℕ) → 0 ≡ sumTo 0 (costIn h goals stretch)
 unfolding sumTo
 costs-none h goals stretch = refl
@@ -96,14 +85,6 @@ costs-more h goals stretch i total c e k =
     let r : c ≡ costIn h goals stretch i = rw d at k in
     rw add-one (omega arith)
 
-pub sum-at-most : (n size : ℕ) (f : ℕ → ℕ) → ((i : ℕ) → i < n → f i ≤ size) → sumTo n f ≤ n * size
-unfolding sumTo
-sum-at-most zero size f h = omega arith
-sum-at-most (suc n) size f h =
-    let a : sumTo n f ≤ n * size = sum-at-most n size f (λ i l. h i (omega arith)) in
-    let b : f n ≤ size = h n (omega arith) in
-    rw suc-mul (omega arith)
-
 pub costs-at-most : (n h : ℕ) (goals stretch : List ℕ) → sumTo n (costIn h goals stretch) ≤ n * (h + 1)
 unfolding routeIn
 costs-at-most n h goals stretch =
@@ -111,12 +92,6 @@ costs-at-most n h goals stretch =
     (λ i l. omega (arith, cost-at-most (getD goals i 0) (routeIn h stretch i), length-take (h + 1) (drop (i * (h + 1)) stretch)))
 
 -- ---- the routes of a stretch
-
-pub getD-mapped : {A : Type 0} (f : ℕ → A) (d : A) (a n i : ℕ) → i < n → getD (map f (range a n)) i d ≡ f (a + i)
-unfolding range
-getD-mapped f d a zero i l = absurd (omega arith)
-getD-mapped f d a (suc n) zero l = let e : a ≡ a + 0 = omega arith in ap f e
-getD-mapped f d a (suc n) (suc i) l = let e : suc a + i ≡ a + suc i = omega arith in getD-mapped f d (suc a) n i (omega arith) ∙ ap f e
 
 pub route-in : (job : Job) (stretch : List ℕ) (i : ℕ) → i < job .count → routeOf (routesIn job stretch) i ≡ routeIn (job .horizon) stretch i
 unfolding routesIn

@@ -2,7 +2,6 @@ pub mod Copies
 pub mod Costs
 pub mod Grown
 pub mod Live
-pub mod Ranges
 pub mod Records
 pub mod Stretches
 pub mod Taking

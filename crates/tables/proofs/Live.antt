@@ -9,6 +9,8 @@ use mathlib.Core.Option.{some}
 use lib.ListN.{length, set, length-set}
 use lib.Seq.{getD-set-same, getD-set-other}
 use Rattle.lists.specs.Lists.{range, sumTo, only, each, Every}
+use Rattle.lists.proofs.Every.{only-every, every-each, every-range, every-below}
+use Rattle.lists.proofs.Ranges.{each-same, each-none, each-split}
 use Rattle.job.specs.Job.{Job}
 use Rattle.routes.specs.Route.{cost, routeIn}
 use Rattle.records.specs.Columns.{entry, sumAt}
@@ -20,7 +22,6 @@ use Rattle.tables.specs.Post.{LeastAt, LeastFact}
 use Rattle.tables.specs.declared.Least.the-variants.{Nothing, At}
 use Rattle.records.proofs.Chain.{chain-same}
 use Rattle.tables.proofs.Costs.{total-in}
-use Rattle.tables.proofs.Ranges.{each-same, each-none, each-every, each-split, only-every}
 use Rattle.tables.proofs.Records.{other-node, earlier-column}
 
 -- ---- a node reads its record's first six columns, those of smaller numbers, and its stretch
@@ -114,17 +115,19 @@ module _ (job : Job) (capacity : ℕ) (columns plans : List ℕ) where
 
     above-before : Every (λ o. nodeSum job node < nodeSum job o) (each made (range 0 x))
     above-before =
-        each-every (λ o. nodeSum job node < nodeSum job o) made 0 x
-        (λ y l k.
+        every-each (λ o. nodeSum job node < nodeSum job o) made (range 0 x)
+        (every-below (λ y. Every (λ o. nodeSum job node < nodeSum job o) (made y)) x
+        (λ y k.
         only-every (λ o. nodeSum job node < nodeSum job o) (isOpenAt capacity columns y) (nodeAt job capacity columns plans y)
-        (λ e. sum-lt y (omega (arith, least .inside)) (least .first y (omega arith) e)))
+        (λ e. sum-lt y (omega (arith, least .inside)) (least .first y (omega arith) e))))
 
     least-after : (m : ℕ) → n ≡ x + suc m → Every (λ o. nodeSum job node ≤ nodeSum job o) (each made (range (suc x) m))
     least-after m s =
-        each-every (λ o. nodeSum job node ≤ nodeSum job o) made (suc x) m
+        every-each (λ o. nodeSum job node ≤ nodeSum job o) made (range (suc x) m)
+        (every-range (λ y. Every (λ o. nodeSum job node ≤ nodeSum job o) (made y)) (suc x) m
         (λ y l k.
         only-every (λ o. nodeSum job node ≤ nodeSum job o) (isOpenAt capacity columns y) (nodeAt job capacity columns plans y)
-        (λ e. sum-le y (omega arith) (least .least y (omega arith) e)))
+        (λ e. sum-le y (omega arith) (least .least y (omega arith) e))))
 
     live-split : (m : ℕ) → n ≡ x + suc m → live job capacity columns plans n ≡ each made (range 0 x) ++ node ∷ each made (range (suc x) m)
     unfolding live only

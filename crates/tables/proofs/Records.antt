@@ -48,7 +48,7 @@ module _ (capacity : ℕ) (before : List ℕ) (x : ℕ) (values : List ℕ) wher
 
 -- ---- a bar in numbers
 
-pub code-bar : (bar : Bar) → barFrom (codeOf bar .kind) (codeOf bar .first) (codeOf bar .second) (codeOf bar .third) ≡ bar
+code-bar : (bar : Bar) → barFrom (codeOf bar .kind) (codeOf bar .first) (codeOf bar .second) (codeOf bar .third) ≡ bar
 unfolding barFrom
 code-bar Free = refl
 code-bar (Stay v a b) = refl

@@ -21,7 +21,7 @@ module _ (capacity : ℕ) (columns : List ℕ) where
   unfolding isOpenAt
   is-open x h = ap not (ne-eqb (entry capacity columns 7 x) 0 h)
 
-  pub is-closed : (x : ℕ) → entry capacity columns 7 x ≡ 0 → isOpenAt capacity columns x ≡ false
+  is-closed : (x : ℕ) → entry capacity columns 7 x ≡ 0 → isOpenAt capacity columns x ≡ false
   unfolding isOpenAt
   is-closed x h = ap not (eq-eqb (entry capacity columns 7 x) 0 h)
 

@@ -1,11 +1,11 @@
 -- What the lent tables hold while the search runs: the nodes made so far. Node x has its record in the columns, and 'each node's
 -- routes fill their own stretch of the plans table', carrier after carrier.
-use Prim.Native.Nat.{ℕ, _+_, _*_, _≤_, _<_}
+use Prim.Native.Nat.{ℕ, _*_, _≤_, _<_}
 use mathlib.Core.Path.{_≡_}
 use mathlib.Core.Bool.{Bool, not}
 use mathlib.Core.List.{List, map}
 use lib.Dec.{eqb}
-use lib.ListN.{length, getD, take, drop}
+use lib.ListN.{length, take, drop}
 use Rattle.lists.specs.Lists.{range, only, each}
 use Rattle.job.specs.Job.{Job, planLength}
 use Rattle.routes.specs.Route.{routeIn}

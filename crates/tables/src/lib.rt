@@ -13,22 +13,14 @@ ghost use Rattle.tables.specs.Tables.{zeroed};
 
 // 'Record columns, 16-bit': the parent, the kind of bar, the barred carrier, three numbers of the bar, the sum, and whether
 // the node is open. Column after column, each with an entry for each of the N nodes.
-const COLUMNS: usize = 8;
-
-const SUM: usize = 6;
-
-const OPEN: usize = 7;
+pub const COLUMNS: usize = 8;
 
 const IS_OPEN: u16 = 1;
 
 const IS_CLOSED: u16 = 0;
 
-// The kinds of bar.
+// The kind of no bar; the others are those of `records`.
 const NO_BAR: usize = 0;
-
-const STAY: usize = 1;
-
-const CROSSING: usize = 2;
 
 // The open node of least sum, if there is one.
 pub enum Least {
@@ -49,13 +41,13 @@ fn better(columns: &[u16], capacity: usize, best: Least, node: usize) -> Least
     requires { ⌜ Room capacity (now columns) node ⌝ ∗ ⌜ LeastFact capacity (now columns) node best ⌝ }
     ensures { λ r. ⌜ LeastFact capacity (now (columns .entry)) (node + 1) r ⌝ }
 {
-    if columns[OPEN * capacity + node] == IS_CLOSED {
+    if columns[records::OPEN * capacity + node] == IS_CLOSED {
         return best;
     }
     match best {
         Least::Nothing => Least::At(node),
         Least::At(x) => {
-            if columns[SUM * capacity + node] < columns[SUM * capacity + x] {
+            if columns[records::SUM * capacity + node] < columns[records::SUM * capacity + x] {
                 Least::At(node)
             } else {
                 Least::At(x)
@@ -81,7 +73,7 @@ pub fn close(columns: &mut [u16], capacity: usize, node: usize)
     requires { ⌜ Room capacity (now columns) node ⌝ }
     ensures { λ r. ⌜ now (columns .exit) ≡ set (now (columns .entry)) (7 * capacity + node) 0 ⌝ }
 {
-    columns[OPEN * capacity + node] = IS_CLOSED;
+    columns[records::OPEN * capacity + node] = IS_CLOSED;
 }
 
 // A bar in numbers.
@@ -96,13 +88,13 @@ pub fn code_of(bar: Bar) -> Code
             third: 0,
         },
         Bar::Stay { cell, first, last } => Code {
-            kind: STAY,
+            kind: records::STAY,
             first: cell,
             second: first,
             third: last,
         },
         Bar::Cross { from, to, step } => Code {
-            kind: CROSSING,
+            kind: records::CROSSING,
             first: from,
             second: to,
             third: step,

@@ -20,7 +20,7 @@ put-append p [] v = refl
 put-append p (b ∷ u) v = put-append (putByte p b) u v
 
 -- one more byte
-pub put-snoc : (p : Page) (u : List ℕ) (b : ℕ) → put p (u ++ (b ∷ [])) ≡ putByte (put p u) b
+put-snoc : (p : Page) (u : List ℕ) (b : ℕ) → put p (u ++ (b ∷ [])) ≡ putByte (put p u) b
 unfolding put
 put-snoc p u b = put-append p u (b ∷ [])
 
@@ -78,7 +78,7 @@ pub digits-one : (n : ℕ) → n < 10 → digits n ≡ (48 + n % 10) ∷ []
 unfolding digits
 digits-one n small = within-one n n small
 
-pub digits-more : (n : ℕ) → 10 ≤ n → digits n ≡ digits (n / 10) ++ ((48 + n % 10) ∷ [])
+digits-more : (n : ℕ) → 10 ≤ n → digits n ≡ digits (n / 10) ++ ((48 + n % 10) ∷ [])
 unfolding digits
 digits-more n more =
     within-more n n more ∙ ap (λ (ds : List ℕ). ds ++ ((48 + n % 10) ∷ [])) (enough n (suc (n / 10)) (n / 10) (omega arith) (omega arith))

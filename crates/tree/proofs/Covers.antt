@@ -2,25 +2,23 @@
 -- For a meeting on v: if the plan's route of i keeps off v over the barred steps, it obeys child one. If it does not, it is on v
 -- at a barred step s, and then j's route keeps off v over its barred steps, since any such step u would be within the slips of s,
 -- and the plan would have a meeting. For a swap likewise, with crossings. Assumes nothing.
-use Prim.Native.Nat.{ℕ, zero, suc, _+_, _-_, _≤_, _<_}
+use Prim.Native.Nat.{ℕ, _+_, _<_}
 use native.Mathlib.Omega.{arith}
-use native.Mathlib.Decide.{decLe}
-use mathlib.Core.Path.{_≡_, refl, sym, ap, subst, _∙_}
-use mathlib.Core.Logic.{_⊎_, inl, inr, ⊎-elim}
-use mathlib.Core.Bool.{Bool, true, false, true≢false}
-use mathlib.Core.List.{List, [], _∷_, _++_}
+use mathlib.Core.Path.{_≡_, refl, sym, _∙_}
+use mathlib.Core.Logic.{_⊎_, inl, inr}
+use mathlib.Core.Bool.{false, true≢false}
+use mathlib.Core.List.{List, _++_}
 use Rattle.lists.specs.Lists.{Any}
 use Rattle.lists.proofs.Every.{any-append-left, any-append-right}
 use Rattle.job.specs.Job.{Job, slipOf, mostSlip}
 use Rattle.routes.specs.Route.{cellOf}
-use Rattle.routes.specs.Bars.{Barred, barsFor, Obeys, ObeysBar}
+use Rattle.routes.specs.Bars.{ObeysBar}
 use Rattle.routes.proofs.Binds.{Visits, Crosses, obeys-or-visits, obeys-or-crosses}
-use Rattle.routes.specs.declared.Bar.{Bar}
-use Rattle.routes.specs.declared.Bar.the-variants.{Free, Stay, Cross}
+use Rattle.routes.specs.declared.Bar.the-variants.{Stay, Cross}
 use Rattle.clashes.specs.Clash.{Meets, Swaps, Apart}
 use Rattle.clashes.specs.declared.Clash.{Clash}
 use Rattle.clashes.specs.declared.Clash.the-variants.{Clear, Meeting, Swap}
-use Rattle.tree.specs.Plan.{Routes, routeOf, cellsOf, Family, IsPlan}
+use Rattle.tree.specs.Plan.{Routes, routeOf, cellsOf, IsPlan}
 use Rattle.tree.specs.Tree.{Node, clashOf, isClear, nodeClear, barOne, barTwo, child, kidsFor, kids}
 use Rattle.tree.proofs.Nodes.{In, child-covers, clash-fact}
 use Rattle.clashes.proofs.Chosen.{ChosenFact}
@@ -30,7 +28,7 @@ use Rattle.clashes.proofs.Holds.{apart-near}
 
 module _ (at : ℕ → ℕ → ℕ) (slip : ℕ → ℕ) (h m i j : ℕ) (apart : Apart at slip h m) (li : i < m) (lj : j < m) (two : i ≡ j → ⊥) where
   -- i is on v at a step from t to t + slip j: then j is not on v at any from t to t + slip i
-  pub visited-once : (r s : List ℕ) (v t : ℕ) → ((x : ℕ) → at i x ≡ cellOf r x) → ((x : ℕ) → at j x ≡ cellOf s x) → Visits h r v t (t + slip j) → ObeysBar h s (Stay v t (t + slip i))
+  visited-once : (r s : List ℕ) (v t : ℕ) → ((x : ℕ) → at i x ≡ cellOf r x) → ((x : ℕ) → at j x ≡ cellOf s x) → Visits h r v t (t + slip j) → ObeysBar h s (Stay v t (t + slip i))
   unfolding ObeysBar
   visited-once r s v t ei ej w =
       λ u a b c e. apart-near at slip h m apart i j (w .step) u li lj two (w .inside) c (omega (arith, w .after)) (omega (arith, w .before, w .after)) (ei (w .step) ∙ w .there ∙ sym e ∙ sym (ej u))

@@ -6,11 +6,10 @@ use native.Mathlib.Omega.{arith}
 use native.Mathlib.Decide.{ℕ-discrete}
 use native.Mathlib.Nat.{le-refl, add-zero, zero-add, add-suc, suc-add}
 use mathlib.Core.Path.{_≡_, refl, sym, ap, subst, _∙_}
-use mathlib.Core.Logic.{_⊎_, inl, inr, ⊎-elim}
-use mathlib.Core.Bool.{Bool, true, false}
+use mathlib.Core.Logic.{inl}
 use mathlib.Core.List.{List, [], _∷_, _++_}
 use mathlib.Core.Option.{Option, none, some}
-use lib.ListN.{length, getD, set, length-set}
+use lib.ListN.{length, set, length-set}
 use lib.Seq.{getD-set-same, getD-set-other}
 use Rattle.lists.specs.Lists.{Every, Any}
 use Rattle.lists.proofs.Every.{every-append}
@@ -18,13 +17,12 @@ use Rattle.lists.proofs.Sums.{sum-le}
 use Rattle.job.specs.Job.{Job, slipOf, mostSlip}
 use Rattle.routes.specs.Route.{Lawful, cost}
 use Rattle.routes.specs.Bars.{Barred, barsFor, Obeys, ObeysBar}
-use Rattle.routes.specs.Best.{Allowed, BestRoute, RightRoute, bestRoute}
+use Rattle.routes.specs.Best.{BestRoute, RightRoute, bestRoute}
 use Rattle.routes.proofs.Binds.{own-bar-binds, other-bar-binds-not, obeys-one-more, obeys-none}
 use Rattle.routes.specs.declared.Bar.{Bar}
-use Rattle.clashes.specs.Chosen.{chosen}
 use Rattle.clashes.specs.declared.Clash.{Clash}
 use Rattle.clashes.specs.declared.Clash.the-variants.{Clear, Meeting, Swap}
-use Rattle.tree.specs.Plan.{Routes, routeOf, cellsOf, total, Family, IsPlan}
+use Rattle.tree.specs.Plan.{Routes, routeOf, cellsOf, total, Family}
 use Rattle.tree.specs.Tree.{Node, routeUnder, withRoute, freeRoutes, rootOf, root, nodeSum, clashOf, barOne, barTwo, childWith, child, kidsFor, kids}
 use Rattle.clashes.proofs.Chosen.{ChosenFact, chosen-fact}
 use Rattle.routes.proofs.Right.{best-is-right}
@@ -60,7 +58,7 @@ module _ (job : Job) (n : Node) (b : Barred) where
           rw (e, own-bar-binds b (n .bars), getD-set-same (n .routes) (b .carrier) r [] (subst (λ (m : ℕ). b .carrier < m) (sym (g .all)) l)) fact
       go i k (no ne) = rw (other-bar-binds-not b (n .bars) i ne, getD-set-other (n .routes) (b .carrier) i r [] ne) (g .best i k)
 
-  pub child-good : Good job n → b .carrier < job .count → Every (Good job) (child job n b)
+  child-good : Good job n → b .carrier < job .count → Every (Good job) (child job n b)
   unfolding child childWith Every RightRoute
   child-good g l = go (routeUnder job (b ∷ n .bars) (b .carrier)) under
     where

@@ -1,11 +1,9 @@
 -- The promises, from the laws of the search over abstract nodes: the tree's nodes are good, their kids lose no plan, a node's sum
 -- bounds every plan under its bars, and kids weigh less than their node. Assumes nothing.
-use Prim.Native.Nat.{ℕ, zero, suc, _+_, _≤_, _<_}
+use Prim.Native.Nat.{ℕ, _+_, _≤_}
 use native.Mathlib.Omega.{arith}
-use mathlib.Core.Path.{_≡_, refl, sym, ap, subst, _∙_}
-use mathlib.Core.Logic.{_⊎_, inl, inr, ⊎-elim}
-use mathlib.Core.Bool.{Bool, true, false, true≢false}
-use mathlib.Core.List.{List, [], _∷_, _++_}
+use mathlib.Core.Path.{_≡_, refl, sym, subst}
+use mathlib.Core.Bool.{true, false, true≢false}
 use mathlib.Core.Option.{Option, none, some}
 use lib.ListN.{length}
 use Rattle.lists.specs.Lists.{Every, Any}
@@ -13,11 +11,11 @@ use Rattle.job.specs.Job.{Job, slipOf, mostSlip}
 use Rattle.clashes.specs.Clash.{Apart}
 use Rattle.clashes.specs.declared.Clash.{Clash}
 use Rattle.clashes.specs.declared.Clash.the-variants.{Clear, Meeting, Swap}
-use Rattle.search.specs.Search.{Outcome, done, full, search}
+use Rattle.search.specs.Search.{done}
 use Rattle.search.proofs.Goes.{Goes, search-goes}
 use Rattle.search.proofs.Least.{found-least, spent-none}
-use Rattle.search.proofs.Need.{need-exists, need-unique}
-use Rattle.tree.specs.Plan.{Routes, routeOf, cellsOf, total, Family, IsPlan, IsSafe}
+use Rattle.search.proofs.Need.{need-exists}
+use Rattle.tree.specs.Plan.{Routes, cellsOf, total, Family, IsPlan, IsSafe}
 use Rattle.tree.specs.Tree.{Node, root, nodeSum, clashOf, isClear, nodeClear, kids, tree}
 use Rattle.tree.specs.Promises.{LeastPlan, NoneExists, NeedIs, Need}
 use Rattle.tree.proofs.Nodes.{Good, In, clash-fact, kids-good, sum-bounds, root-good, root-covers, root-length}
@@ -67,10 +65,10 @@ module _ (job : Job) where
   good-family n g = record { all = g .all; lawful = λ i l. g .best i l .allowed .lawful }
 
   -- demand 3 of a family: no meeting and no swap exactly if no pattern of holds collides
-  pub plan-safe : (rs : Routes) → IsPlan job rs → IsSafe job rs
+  plan-safe : (rs : Routes) → IsPlan job rs → IsSafe job rs
   plan-safe rs p = apart-survives (cellsOf rs) (slipOf job) (job .horizon) (job .count) (p .apart)
 
-  pub safe-plan : (rs : Routes) → Family job rs → IsSafe job rs → IsPlan job rs
+  safe-plan : (rs : Routes) → Family job rs → IsSafe job rs → IsPlan job rs
   safe-plan rs f s = record { family = f; apart = survives-apart (cellsOf rs) (slipOf job) (job .horizon) (job .count) s }
 
   -- answer 0

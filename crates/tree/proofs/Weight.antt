@@ -1,35 +1,32 @@
 -- The tree ends: every child has fewer free places than its node. A place is a carrier on a cell at a step, or its way from one
 -- cell to another between two steps; it is free where no bar forbids it. The chosen clash names a place that the node's route
 -- uses, so that it was free, and the child's bar forbids it. Assumes nothing.
-use Prim.Native.Nat.{ℕ, zero, suc, _+_, _*_, _^_, _≤_, _<_}
+use Prim.Native.Nat.{ℕ, suc, _+_, _*_, _^_, _≤_, _<_}
 use native.Mathlib.Omega.{arith}
-use native.Mathlib.Numerals.{add-one}
-use mathlib.Core.Path.{_≡_, refl, sym, ap, subst, _∙_}
-use mathlib.Core.Logic.{_⊎_, inl, inr, ⊎-elim}
-use mathlib.Core.Bool.{Bool, true, false, not, true≢false, _&&_}
+use mathlib.Core.Path.{_≡_, refl, sym, subst}
+use mathlib.Core.Logic.{⊎-elim}
+use mathlib.Core.Bool.{Bool, false, not, true≢false, _&&_}
 use mathlib.Core.List.{List, [], _∷_, _++_, List·Memᴰ, List·Memᴰ·head, List·Memᴰ·tail, map, List·Memᴰ·not-nil, List·Memᴰ·cases-cons, Memᴰ·append-left, Memᴰ·append-right}
 use mathlib.Core.Option.{Option, none, some}
 use lib.ListN.{getD}
-use lib.Dec.{T, leb, ltb, eqb, eqb→eq, leb→le, le→leb, eqb-refl, ltb→lt}
+use lib.Dec.{T, leb, ltb, eqb, le→leb, eqb-refl, ltb→lt, not-T, T-not}
 use lib.Pow.{pow-pos, pow-mono}
 use Rattle.lists.specs.Lists.{range, only, anyOf, each}
-use Rattle.lists.proofs.Bools.{and-both, both-and, true-not, not-true}
-use Rattle.lists.proofs.Members.{has-each, has-map, has-range, has-only, any-has, has-any}
-use Rattle.lists.proofs.Sums.{count, count-falls}
-use Rattle.hall.specs.Hall.{Hall, size, isOpen, openByte}
+use Rattle.lists.proofs.Tests.{and-both, both-and}
+use Rattle.lists.proofs.Members.{member-each, member-map, member-range, member-only}
+use Rattle.lists.proofs.Passing.{any-member, member-any}
+use Rattle.lists.proofs.Sums.{count, count-falls, totalOf, total-append}
+use Rattle.hall.specs.Hall.{size, isOpen, openByte}
 use Rattle.job.specs.Job.{Job, slipOf, mostSlip}
-use Rattle.routes.specs.Route.{Lawful, cellOf}
+use Rattle.routes.specs.Route.{cellOf}
 use Rattle.routes.specs.Bars.{Barred, barsFor, barsCell, barsWay, Obeys, ObeysBar}
-use Rattle.routes.specs.Best.{BestRoute}
 use Rattle.routes.proofs.Bars.{obeys-cell, obeys-way}
 use Rattle.routes.proofs.Right.{lawful-opens}
-use Rattle.routes.specs.declared.Bar.{Bar}
-use Rattle.routes.specs.declared.Bar.the-variants.{Free, Stay, Cross}
+use Rattle.routes.specs.declared.Bar.the-variants.{Cross}
 use Rattle.clashes.specs.Clash.{Meets, Swaps}
 use Rattle.clashes.specs.declared.Clash.{Clash}
 use Rattle.clashes.specs.declared.Clash.the-variants.{Clear, Meeting, Swap}
-use Rattle.search.proofs.Need.{totalOf, total-append}
-use Rattle.tree.specs.Plan.{Routes, routeOf, cellsOf}
+use Rattle.tree.specs.Plan.{routeOf, cellsOf}
 use Rattle.tree.specs.Tree.{Node, routeUnder, clashOf, isClear, nodeClear, barOne, barTwo, childWith, child, kidsFor, kids}
 use Rattle.tree.proofs.Nodes.{Good, clash-fact}
 use Rattle.clashes.proofs.Chosen.{ChosenFact}
@@ -57,11 +54,11 @@ module _ (job : Job) (i t v : ℕ) (li : i < job .count) (lt : t ≤ job .horizo
   in-spots : (s : Spot) → List·Memᴰ s (spotsFrom (size (job .hall)) i t v) → List·Memᴰ s (spots job)
   unfolding spots
   in-spots s m =
-      has-each (λ i. each (λ t. each (spotsFrom (size (job .hall)) i t) (range 0 (size (job .hall)))) (range 0 (job .horizon + 1))) i (range 0 (job .count)) s
-      (has-range 0 (job .count) i (omega arith) (omega arith))
-      (has-each (λ t. each (spotsFrom (size (job .hall)) i t) (range 0 (size (job .hall)))) t (range 0 (job .horizon + 1)) s
-      (has-range 0 (job .horizon + 1) t (omega arith) (omega arith))
-      (has-each (spotsFrom (size (job .hall)) i t) v (range 0 (size (job .hall))) s (has-range 0 (size (job .hall)) v (omega arith) (omega arith)) m))
+      member-each (λ i. each (λ t. each (spotsFrom (size (job .hall)) i t) (range 0 (size (job .hall)))) (range 0 (job .horizon + 1))) (range 0 (job .count))
+      (member-range {x = i} 0 (job .count) (omega arith) (omega arith))
+      (member-each (λ t. each (spotsFrom (size (job .hall)) i t) (range 0 (size (job .hall)))) (range 0 (job .horizon + 1))
+      (member-range {x = t} 0 (job .horizon + 1) (omega arith) (omega arith))
+      (member-each (spotsFrom (size (job .hall)) i t) (range 0 (size (job .hall))) (member-range {x = v} 0 (size (job .hall)) (omega arith) (omega arith)) m))
 
   on-listed : List·Memᴰ (on i t v) (spots job)
   unfolding spotsFrom
@@ -70,7 +67,7 @@ module _ (job : Job) (i t v : ℕ) (li : i < job .count) (lt : t ≤ job .horizo
   way-listed : (u : ℕ) → u < size (job .hall) → List·Memᴰ (way i t v u) (spots job)
   unfolding spotsFrom
   way-listed u l =
-      in-spots (way i t v u) (List·Memᴰ·tail (has-map (way i t v) u (range 0 (size (job .hall))) (has-range 0 (size (job .hall)) u (omega arith) (omega arith))))
+      in-spots (way i t v u) (List·Memᴰ·tail (member-map (way i t v) (range 0 (size (job .hall))) (member-range {x = u} 0 (size (job .hall)) (omega arith) (omega arith))))
 
 -- ---- weight
 
@@ -93,7 +90,7 @@ unfolding barsFor
 bar-binds i [] b m e = absurd (List·Memᴰ·not-nil m)
 bar-binds i (c ∷ bars) b m e =
     ⊎-elim
-    (λ (q : b ≡ c). Memᴰ·append-left (barsFor i bars) (subst (λ (x : Barred). List·Memᴰ (b .bar) (only (eqb (x .carrier) i) (x .bar))) q (has-only (eqb (b .carrier) i) (b .bar) e)))
+    (λ (q : b ≡ c). Memᴰ·append-left (barsFor i bars) (subst (λ (x : Barred). List·Memᴰ (b .bar) (only (eqb (x .carrier) i) (x .bar))) q (member-only (eqb (b .carrier) i) e refl)))
     (λ (k : List·Memᴰ b bars). Memᴰ·append-right (only (eqb (c .carrier) i) (c .bar)) (bar-binds i bars b k e))
     (List·Memᴰ·cases-cons m)
 
@@ -108,16 +105,16 @@ module _ (job : Job) (n : Node) (good : Good job n) (i : ℕ) (li : i < job .cou
   on-free : (t : ℕ) → t ≤ job .horizon → T (isFree (n .bars) (on i t (cellOf route t)))
   unfolding isFree forbids
   on-free t l =
-      true-not (anyOf (forbids (on i t (cellOf route t))) (n .bars)) (λ a.
-      let (b, m, x) = any-has (forbids (on i t (cellOf route t))) (n .bars) a in
+      not-T (anyOf (forbids (on i t (cellOf route t))) (n .bars)) (λ a.
+      let (b, m, x) = any-member (forbids (on i t (cellOf route t))) (n .bars) a in
       let (e, y) = and-both (eqb (b .carrier) i) (barsCell t (cellOf route t) (b .bar)) x in
       obeys-cell (job .horizon) route (b .bar) (kept-by b m e) t l y)
 
   way-free : (t : ℕ) → t < job .horizon → T (isFree (n .bars) (way i t (cellOf route t) (cellOf route (t + 1))))
   unfolding isFree forbids
   way-free t l =
-      true-not (anyOf (forbids (way i t (cellOf route t) (cellOf route (t + 1)))) (n .bars)) (λ a.
-      let (b, m, x) = any-has (forbids (way i t (cellOf route t) (cellOf route (t + 1)))) (n .bars) a in
+      not-T (anyOf (forbids (way i t (cellOf route t) (cellOf route (t + 1)))) (n .bars)) (λ a.
+      let (b, m, x) = any-member (forbids (way i t (cellOf route t) (cellOf route (t + 1)))) (n .bars) a in
       let (e, y) = and-both (eqb (b .carrier) i) (barsWay t (cellOf route t) (cellOf route (t + 1)) (b .bar)) x in
       obeys-way (job .horizon) route (b .bar) (kept-by b m e) t l y)
 
@@ -132,14 +129,14 @@ module _ (job : Job) (n : Node) (good : Good job n) (i : ℕ) (li : i < job .cou
 
 still-free : (b : Barred) (bars : List Barred) (s : Spot) → T (isFree (b ∷ bars) s) → T (isFree bars s)
 unfolding isFree
-still-free b bars s f = true-not (anyOf (forbids s) bars) (λ a. not-true (anyOf (forbids s) (b ∷ bars)) f (later a))
+still-free b bars s f = not-T (anyOf (forbids s) bars) (λ a. T-not (anyOf (forbids s) (b ∷ bars)) f (later a))
   where
     later : T (anyOf (forbids s) bars) → T (anyOf (forbids s) (b ∷ bars))
-    later a = let (c, m, x) = any-has (forbids s) bars a in has-any (forbids s) (b ∷ bars) c (List·Memᴰ·tail m) x
+    later a = let (c, m, x) = any-member (forbids s) bars a in member-any (forbids s) (b ∷ bars) (List·Memᴰ·tail m) x
 
 now-forbidden : (b : Barred) (bars : List Barred) (s : Spot) → T (forbids s b) → T (isFree (b ∷ bars) s) → ⊥
 unfolding isFree
-now-forbidden b bars s x f = not-true (anyOf (forbids s) (b ∷ bars)) f (has-any (forbids s) (b ∷ bars) b (List·Memᴰ·head refl) x)
+now-forbidden b bars s x f = T-not (anyOf (forbids s) (b ∷ bars)) f (member-any (forbids s) (b ∷ bars) (List·Memᴰ·head refl) x)
 
 child-lighter : (job : Job) (n : Node) (b : Barred) (s : Spot) → List·Memᴰ s (spots job) → T (isFree (n .bars) s) → T (forbids s b) → 4 * totalOf (weight job) (child job n b) ≤ weight job n
 unfolding child childWith totalOf weight

@@ -1,11 +1,10 @@
 -- What is promised of the tree, in the paper's words, for a reader who does not want to know it. Each is proved in
 -- proofs/Promises.antt for every job.
-use Prim.Native.Nat.{ℕ, _+_, _≤_, _<_}
+use Prim.Native.Nat.{ℕ, _≤_, _<_}
 use mathlib.Core.Path.{_≡_}
-use mathlib.Core.List.{List}
 use mathlib.Core.Option.{Option}
 use Rattle.job.specs.Job.{Job}
-use Rattle.search.specs.Search.{Outcome, done, full}
+use Rattle.search.specs.Search.{done, full}
 use Rattle.tree.specs.Plan.{Routes, total, Family, IsPlan, IsSafe}
 use Rattle.tree.specs.Tree.{Node, tree}
 

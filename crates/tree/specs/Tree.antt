@@ -7,13 +7,12 @@ use lib.ListN.{set}
 use Rattle.job.specs.Job.{Job, slipOf, mostSlip}
 use Rattle.routes.specs.Bars.{Barred, barsFor}
 use Rattle.routes.specs.Best.{bestRoute}
-use Rattle.routes.specs.declared.Bar.{Bar}
 use Rattle.routes.specs.declared.Bar.the-variants.{Free, Stay, Cross}
 use Rattle.clashes.specs.Chosen.{chosen}
 use Rattle.clashes.specs.declared.Clash.{Clash}
 use Rattle.clashes.specs.declared.Clash.the-variants.{Clear, Meeting, Swap}
 use Rattle.search.specs.Search.{Outcome, search}
-use Rattle.tree.specs.Plan.{Routes, routeOf, cellsOf, total}
+use Rattle.tree.specs.Plan.{Routes, cellsOf, total}
 
 -- Rule 1. 'A bar binds a node if it stands in that node's record or in the record of one of its ancestors.' A node has all
 -- bars that bind it, its own in front, and a route for each carrier.

@@ -4,7 +4,7 @@ use native.Mathlib.Omega.{arith}
 use mathlib.Core.Path.{_≡_, sym, _∙_}
 use borrow.Author.Needs.{needs}
 use Rattle.lists.specs.Lists.{range, each, firstOf}
-use Rattle.hall.proofs.Passing.{first-each-found, first-each-passed, first-each-done}
+use Rattle.lists.proofs.Loops.{first-each-found, first-each-passed, first-each-done}
 use Rattle.job.specs.Job.{planCell}
 use Rattle.job.specs.Team.{jobOf}
 use Rattle.routes.specs.Check.{firstWrongPlace}

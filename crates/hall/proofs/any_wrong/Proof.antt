@@ -4,8 +4,8 @@ use native.Mathlib.Omega.{arith}
 use mathlib.Core.Path.{_≡_, refl, sym, _∙_}
 use lib.ListN.{length, drop}
 use Rattle.lists.specs.Lists.{anyOf}
+use Rattle.lists.proofs.Loops.{any-found, any-passed, any-ended}
 use Rattle.hall.specs.Hall.{wrongByte}
-use Rattle.hall.proofs.Passing.{any-found, any-passed, any-ended}
 use Rattle.hall.proofs.any_wrong.Statement.{statement}
 use Rattle.hall.proofs.any_wrong.Tie as tie
 

@@ -4,8 +4,8 @@ use native.Mathlib.Omega.{arith}
 use mathlib.Core.Path.{_≡_, refl, sym, _∙_}
 use lib.Dec.{eqb}
 use Rattle.lists.specs.Lists.{range, each, anyOf}
+use Rattle.lists.proofs.Loops.{each-found, each-passed, each-done}
 use Rattle.hall.specs.Moves.{landing, reachFrom}
-use Rattle.hall.proofs.Passing.{each-found, each-passed, each-done}
 use Rattle.hall.proofs.reaches.Statement.{statement}
 use Rattle.hall.proofs.reaches.Tie as tie
 

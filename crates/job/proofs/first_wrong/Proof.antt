@@ -4,7 +4,7 @@ use native.Mathlib.Omega.{arith}
 use mathlib.Core.Path.{_≡_, sym, _∙_}
 use borrow.Author.Needs.{needs}
 use Rattle.lists.specs.Lists.{range, firstOf}
-use Rattle.hall.proofs.Passing.{first-range-found, first-range-passed, first-range-done}
+use Rattle.lists.proofs.Loops.{first-range-found, first-range-passed, first-range-done}
 use Rattle.job.specs.Job.{wrongEnds, firstWrong}
 use Rattle.job.specs.Team.{jobOf}
 use Rattle.job.specs.Found.{endFound}

@@ -5,7 +5,8 @@ use Prim.Native.Nat.{_-_, _*_, _≤_}
 use mathlib.Core.Path.{_≡_, subst}
 use Rattle.layers.specs.Fill.{lentHall, MadeFrom}
 use Rattle.layers.proofs.CellLaws.{size-small}
-use Rattle.layers.proofs.MadeLaws.{layers-none, layers-more, one-more, layers-apart}
+use Rattle.layers.proofs.MadeLaws.{layers-none, layers-more, one-more}
+use Rattle.lists.proofs.Parts.{part-within}
 use Rattle.layers.proofs.fill_back.Statement.{statement}
 use Rattle.layers.proofs.fill_back.Tie as tie
 
@@ -25,10 +26,10 @@ mul-fill-layer : tie.Need-mul-fill-layer Inv-loop μ-loop
 mul-fill-layer c = let small = size-small (c .before .before .before .before .before .args .width) (c .before .before .before .before .before .args .height) (omega arith) (omega arith) in omega arith
 
 mul-fill-layer-2 : tie.Need-mul-fill-layer-2 Inv-loop μ-loop
-mul-fill-layer-2 c = let apart = layers-apart (c .before .loop .t - 1) (c .before .before .before .before .before .args .h) (c .before .before .before .before .before .args .width * c .before .before .before .before .before .args .height) (omega arith) in let last = one-more (c .before .before .before .before .before .args .h) (c .before .before .before .before .before .args .width * c .before .before .before .before .before .args .height) in omega (arith, c .before .loop .inv .1 .long)
+mul-fill-layer-2 c = let apart = part-within (c .before .loop .t - 1) (c .before .before .before .before .before .args .h) (c .before .before .before .before .before .args .width * c .before .before .before .before .before .args .height) (omega arith) in let last = one-more (c .before .before .before .before .before .args .h) (c .before .before .before .before .before .args .width * c .before .before .before .before .before .args .height) in omega (arith, c .before .loop .inv .1 .long)
 
 fill-layer-requires : tie.Need-fill-layer-requires Inv-loop μ-loop
-fill-layer-requires c κs = (let apart = layers-apart (c .before .before .loop .t - 1) (c .before .before .before .before .before .before .args .h) (c .before .before .before .before .before .before .args .width * c .before .before .before .before .before .before .args .height) (omega arith) in let last = one-more (c .before .before .before .before .before .before .args .h) (c .before .before .before .before .before .before .args .width * c .before .before .before .before .before .before .args .height) in omega (arith, c .before .before .loop .inv .1 .long), c .before .before .before .before .before .before .pre .1)
+fill-layer-requires c κs = (let apart = part-within (c .before .before .loop .t - 1) (c .before .before .before .before .before .before .args .h) (c .before .before .before .before .before .before .args .width * c .before .before .before .before .before .before .args .height) (omega arith) in let last = one-more (c .before .before .before .before .before .before .args .h) (c .before .before .before .before .before .before .args .width * c .before .before .before .before .before .before .args .height) in omega (arith, c .before .before .loop .inv .1 .long), c .before .before .before .before .before .before .pre .1)
 
 loop-less : tie.Need-loop-less Inv-loop μ-loop
 loop-less c = omega arith

@@ -13,7 +13,7 @@ use Rattle.layers.specs.Layers.{wayFrom, Filled}
 use Rattle.layers.specs.Fill.{lentHall}
 use Rattle.layers.specs.Write.{writtenFrom}
 use Rattle.layers.proofs.Turns.{mark-small}
-use Rattle.layers.proofs.MadeLaws.{layers-apart}
+use Rattle.lists.proofs.Parts.{part-within}
 use Rattle.layers.proofs.WriteLaws.{Writing, layered-ways, write-begins, turns-before, write-turn, write-stays}
 use Rattle.layers.proofs.write_barred.Statement.{statement}
 use Rattle.layers.proofs.write_barred.Tie as tie
@@ -108,7 +108,7 @@ step-on-requires c κs =
     let a = c .before .before .before .before .before .before .before .before .before .before .args in
     let f = c .before .before .loop .inv (boundBy (a .capacity) (a .columns .now) (a .node) (a .carrier) (a .bar)) (c .before .before .before .before .before .before .before .before .before .before .pre .1 .1 .0) (c .before .before .before .before .mark-all .ensures .marked) in
     let before = turns-before (lentHall (a .width) (a .height) (a .hall .now)) (boundBy (a .capacity) (a .columns .now) (a .node) (a .carrier) (a .bar)) (a .goal) (a .h) (a .layers .now) (omega (arith, c .before .before .before .before .before .before .before .before .before .before .pre .0 .0 .late)) (c .before .before .before .before .before .before .before .before .before .before .pre .1 .1 .0) (c .before .before .loop .t) (c .before .before .loop .v) (writtenFrom (a .step) (wayFrom (lentHall (a .width) (a .height) (a .hall .now)) (boundBy (a .capacity) (a .columns .now) (a .node) (a .carrier) (a .bar)) (a .goal) (a .h) (a .step) (a .cell)) (a .stretch .now)) (c .before .before .loop .stretch) f (λ e. c .if1 .taken (c .before .level-at .ensures ∙ e)) in
-    let apart = layers-apart (c .before .before .loop .t + 1) (a .h + 1) (a .width * a .height) (omega arith) in
+    let apart = part-within (c .before .before .loop .t + 1) (a .h + 1) (a .width * a .height) (omega arith) in
     (omega (arith, f .inside, c .before .before .before .before .before .before .before .before .before .before .pre .0 .0), omega (arith, c .before .level-at .ensures, c .if1 .taken))
 
 add-t : tie.Need-add-t Inv-loop μ-loop

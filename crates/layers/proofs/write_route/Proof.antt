@@ -7,7 +7,7 @@ use Rattle.marks.specs.Marks.{boundBy}
 use Rattle.marks.proofs.Places.{bounds}
 use Rattle.layers.specs.Layers.{routeFrom, writtenRoute}
 use Rattle.layers.specs.Fill.{lentHall}
-use Rattle.layers.proofs.MadeLaws.{layers-apart}
+use Rattle.lists.proofs.Parts.{part-within}
 use Rattle.layers.proofs.WriteLaws.{Writing, none-written, route-begins, rest-short, turns-before, free-turn, write-rest, write-stays}
 use Rattle.layers.proofs.write_route.Statement.{statement}
 use Rattle.layers.proofs.write_route.Tie as tie
@@ -22,7 +22,7 @@ abbrev μ-loop : tie.MeasureT-loop
 level-at-requires : tie.Need-level-at-requires Inv-loop μ-loop
 level-at-requires c κs =
     let a = c .before .before .before .before .args in
-    let one = layers-apart 0 (a .h + 1) (a .width * a .height) (omega arith) in
+    let one = part-within 0 (a .h + 1) (a .width * a .height) (omega arith) in
     omega (arith, c .before .before .before .before .pre .0 .0 .room)
 
 returns : tie.Need-returns Inv-loop μ-loop
@@ -121,7 +121,7 @@ step-on-requires c κs =
     let a = c .before .before .before .before .before .before .before .before .before .before .before .args in
     let f = c .before .before .before .before .loop .inv in
     let before = turns-before (lentHall (a .width) (a .height) (a .hall .now)) (boundBy (a .capacity) (a .columns .now) (a .node) (a .carrier) (a .bar)) (a .goal) (a .h) (a .layers .now) (omega (arith, c .before .before .before .before .before .before .before .before .before .before .before .pre .0 .0 .late)) (c .before .before .before .before .before .before .before .before .before .before .before .pre .1 .1) (c .before .before .before .before .loop .t) (c .before .before .before .before .loop .v) (writtenRoute (routeFrom (lentHall (a .width) (a .height) (a .hall .now)) (boundBy (a .capacity) (a .columns .now) (a .node) (a .carrier) (a .bar)) (a .start) (a .goal) (a .h)) (a .stretch .now)) (c .before .before .before .before .loop .stretch) f (λ e. c .before .before .if2 .taken (c .before .before .before .level-at2 .ensures ∙ e)) in
-    let apart = layers-apart (c .before .before .before .before .loop .t + 1) (a .h + 1) (a .width * a .height) (omega arith) in
+    let apart = part-within (c .before .before .before .before .loop .t + 1) (a .h + 1) (a .width * a .height) (omega arith) in
     (omega (arith, f .inside, c .before .before .before .before .before .before .before .before .before .before .before .pre .0 .0), omega (arith, c .before .before .before .level-at2 .ensures, c .before .before .if2 .taken))
 
 add-t : tie.Need-add-t Inv-loop μ-loop

@@ -3,7 +3,7 @@ use Prim.Native.Nat.{_+_, _-_, _≤_}
 use native.Mathlib.Omega.{arith}
 use mathlib.Core.Path.{_≡_, refl, _∙_}
 use lib.ListN.{length}
-use Rattle.tables.proofs.Costs.{part-within}
+use Rattle.lists.proofs.Parts.{part-within}
 use Rattle.text.specs.Text.{page, put}
 use Rattle.lines.specs.Lines.{carrierLines}
 use Rattle.lines.proofs.LinesLaws.{carriers-none, carriers-more, carriers-whole}

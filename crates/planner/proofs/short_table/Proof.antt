@@ -1,7 +1,8 @@
 -- The four tests in their order; all products are small. Assumes nothing.
 use native.Mathlib.Omega.{arith}
 use borrow.Author.Needs.{needs}
-use Rattle.planner.proofs.Answers.{plans-small, grid-small, layers-small, short-columns, short-plans, short-layers, short-output}
+use Rattle.hall.proofs.HallCode.{area-small}
+use Rattle.planner.proofs.Answers.{plans-small, layers-small, short-columns, short-plans, short-layers, short-output}
 use Rattle.planner.proofs.short_table.Statement.{statement}
 use Rattle.planner.proofs.short_table.Tie as tie
 
@@ -40,7 +41,7 @@ mul-if3 : tie.Need-mul-if3
 mul-if3 c =
     let a = c .before .before .before .before .before .before .before .before .before .before .before .args in
     let pre = c .before .before .before .before .before .before .before .before .before .before .before .pre in
-    omega (arith, grid-small (a .task .width) (a .task .height) (pre .width-most) (pre .height-most))
+    omega (arith, area-small (pre .width-most) (pre .height-most))
 
 mul-if3-2 : tie.Need-mul-if3-2
 mul-if3-2 c =

@@ -1,77 +1,16 @@
 -- Loops that look for one that passes, over a lent list and over a range: what is left to look at has the same answer, one step
--- at a time. General laws, which belong beside the crate lists. Assumes nothing.
+-- at a time. Assumes nothing.
 use Prim.Native.Nat.{ℕ, suc, _+_, _-_, _≤_, _<_}
 use native.Mathlib.Numerals.{add-one}
-use native.Mathlib.Omega.{arith}
-use mathlib.Core.Path.{_≡_, refl, sym, subst}
-use mathlib.Core.Bool.{Bool, true, false, _&&_, _||_}
-use mathlib.Core.List.{List, [], _∷_, _++_, map}
-use mathlib.Core.Option.{Option, none, some}
-use lib.Dec.{T, eqb, eqb→eq}
+use mathlib.Core.Path.{_≡_}
+use mathlib.Core.Bool.{Bool, true, false, _||_}
+use mathlib.Core.List.{List, map}
+use mathlib.Core.Option.{none, some}
 use lib.ListN.{length, drop, getD, drop-of-length-le}
 use lib.Seq.{drop-cons}
-use Rattle.lists.specs.Lists.{range, keep, anyOf, firstOf, each}
-use Rattle.lists.proofs.Bools.{and-both, both-and}
-use Rattle.lists.proofs.Members.{any-has, has-any, keep-has, has-keep}
-use Rattle.hall.proofs.Tests.{same-test}
-
--- ---- a range from i up to n
-
-pub range-next : (i n : ℕ) → i < n → range i (n - i) ≡ i ∷ range (i + 1) (n - (i + 1))
-unfolding range
-range-next i n h = let e : n - i ≡ suc (n - (i + 1)) = omega arith in rw (e, add-one)
-
-pub range-done : (i n : ℕ) → n ≤ i → range i (n - i) ≡ []
-unfolding range
-range-done i n h = let e : n - i ≡ 0 = omega arith in rw e
-
--- ---- one that passes
-
-module _ {A : Type 0} (p : A → Bool) where
-  pub any-here : (x : A) (xs : List A) → p x ≡ true → anyOf p (x ∷ xs) ≡ true
-  unfolding anyOf
-  any-here x xs e = rw (e, anyOf)
-
-  pub any-later : (x : A) (xs : List A) → p x ≡ false → anyOf p (x ∷ xs) ≡ anyOf p xs
-  unfolding anyOf
-  any-later x xs e = rw (e, anyOf)
-
-  pub any-append : (xs ys : List A) → anyOf p (xs ++ ys) ≡ (anyOf p xs || anyOf p ys)
-  unfolding anyOf
-  any-append [] ys = refl
-  any-append (x ∷ xs) ys =
-      elim (p x) as (λ (b : Bool). elim b [ true ↦ true | false ↦ anyOf p (xs ++ ys) ] ≡ (elim b [ true ↦ true | false ↦ anyOf p xs ] || anyOf p ys)) [
-        | true ↦ refl
-        | false ↦ any-append xs ys
-      ]
-
-  pub first-here : (x : A) (xs : List A) → p x ≡ true → firstOf p (x ∷ xs) ≡ some x
-  unfolding firstOf
-  first-here x xs e = rw (e, firstOf)
-
-  pub first-next : (x : A) (xs : List A) → p x ≡ false → firstOf p (x ∷ xs) ≡ firstOf p xs
-  unfolding firstOf
-  first-next x xs e = rw (e, firstOf)
-
-  pub first-in-front : (y : A) (xs ys : List A) → firstOf p xs ≡ some y → firstOf p (xs ++ ys) ≡ some y
-  unfolding firstOf
-  first-in-front y [] ys e = let z : _≡_ {A = ℕ} 0 1 = cc in absurd (omega arith)
-  first-in-front y (x ∷ xs) ys e =
-      (elim (p x) as (λ (b : Bool). _≡_ {A = Option A} (elim b [ true ↦ some x | false ↦ firstOf p xs ]) (some y) → _≡_ {A = Option A} (elim b [ true ↦ some x | false ↦ firstOf p (xs ++ ys) ]) (some y)) [
-        | true ↦ λ h. h
-        | false ↦ λ h. first-in-front y xs ys h
-      ])
-      e
-
-  pub first-behind : (xs ys : List A) → firstOf p xs ≡ none → firstOf p (xs ++ ys) ≡ firstOf p ys
-  unfolding firstOf
-  first-behind [] ys e = refl
-  first-behind (x ∷ xs) ys e =
-      (elim (p x) as (λ (b : Bool). _≡_ {A = Option A} (elim b [ true ↦ some x | false ↦ firstOf p xs ]) none → _≡_ {A = Option A} (elim b [ true ↦ some x | false ↦ firstOf p (xs ++ ys) ]) (firstOf p ys)) [
-        | true ↦ λ h. let z : _≡_ {A = ℕ} 0 1 = cc in absurd (omega arith)
-        | false ↦ λ h. first-behind xs ys h
-      ])
-      e
+use Rattle.lists.specs.Lists.{range, anyOf, firstOf, each}
+use Rattle.lists.proofs.Passing.{any-here, any-later, any-append, first-here, first-next, first-in-front, first-behind}
+use Rattle.lists.proofs.Ranges.{range-next, range-done}
 
 -- ---- of a lent list
 
@@ -140,17 +79,3 @@ module _ {A : Type 0} (p : A → Bool) (f : ℕ → A) (i n : ℕ) where
   pub first-map-done : n ≤ i → firstOf p (map f (range i (n - i))) ≡ none
   unfolding firstOf
   first-map-done h = rw (range-done i n h)
-
--- ---- of those that are kept
-
-pub any-kept : (p : ℕ → Bool) (x : ℕ) (ys : List ℕ) → (p x && anyOf (eqb x) ys) ≡ anyOf (eqb x) (keep p ys)
-any-kept p x ys =
-    same-test
-    (λ t.
-    let (px, i) = and-both (p x) (anyOf (eqb x) ys) t in
-    let (y, m, q) = any-has (eqb x) ys i in
-    has-any (eqb x) (keep p ys) y (has-keep p ys y (subst (λ (a : ℕ). T (p a)) (eqb→eq x y q) px) m) q)
-    (λ t.
-    let (y, m, q) = any-has (eqb x) (keep p ys) t in
-    let (py, i) = keep-has p ys y m in
-    both-and (p x) (anyOf (eqb x) ys) (subst (λ (a : ℕ). T (p a)) (sym (eqb→eq x y q)) py) (has-any (eqb x) ys y i q))

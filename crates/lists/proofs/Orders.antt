@@ -1,0 +1,84 @@
+-- Lists in an order: each entry stands so to all that come after it. Of a list in order the first that passes comes before all
+-- others that do. By induction on the list. Assumes nothing.
+use Prim.Native.Nat.{ℕ, zero, suc, _+_, _≤_, _<_}
+use native.Mathlib.Omega.{arith}
+use mathlib.Core.Path.{_≡_, refl, subst}
+use mathlib.Core.Bool.{Bool, true, false}
+use mathlib.Core.List.{List, [], _∷_, _++_, map}
+use mathlib.Core.Option.{Option, none, some}
+use lib.Dec.{T}
+use Rattle.lists.specs.Lists.{range, only, keep, each, firstOf, Every}
+use Rattle.lists.proofs.Every.{every-imply, every-append, only-every, keep-every, every-map, every-each, every-exchange, every-range}
+
+unfoldable pub Ordered : {A : Type 0} → (A → A → Type 0) → List A → Type 0
+Ordered R [] = Unit {0}
+Ordered R (x ∷ xs) = Every (R x) xs × Ordered R xs
+
+-- each number is below all later ones
+unfoldable pub Rising : List ℕ → Type 0
+Rising xs = Ordered (λ x y. x < y) xs
+
+module _ {A : Type 0} (R : A → A → Type 0) where
+  pub ordered-imply : (S : A → A → Type 0) → ((x y : A) → R x y → S x y) → (xs : List A) → Ordered R xs → Ordered S xs
+  unfolding Ordered
+  ordered-imply S f [] o = tt
+  ordered-imply S f (x ∷ xs) o = (every-imply (f x) xs (o .0), ordered-imply S f xs (o .1))
+
+  pub ordered-append : (xs ys : List A) → Ordered R xs → Ordered R ys → Every (λ x. Every (R x) ys) xs → Ordered R (xs ++ ys)
+  unfolding Ordered Every
+  ordered-append [] ys o q between = q
+  ordered-append (x ∷ xs) ys o q between = (every-append (R x) xs ys (o .0) (between .0), ordered-append xs ys (o .1) q (between .1))
+
+  pub ordered-only : (b : Bool) (x : A) → Ordered R (only b x)
+  unfolding Ordered only Every
+  ordered-only true x = (tt, tt)
+  ordered-only false x = tt
+
+  pub ordered-keep : (p : A → Bool) (xs : List A) → Ordered R xs → Ordered R (keep p xs)
+  unfolding Ordered keep
+  ordered-keep p [] o = tt
+  ordered-keep p (x ∷ xs) o =
+      ordered-append (only (p x) x) (keep p xs) (ordered-only (p x) x) (ordered-keep p xs (o .1))
+      (only-every (λ a. Every (R a) (keep p xs)) (p x) x (λ _. keep-every (R x) p xs (o .0)))
+
+module _ {A B : Type 0} (R : B → B → Type 0) where
+  pub ordered-map : (f : A → B) (xs : List A) → Ordered (λ a b. R (f a) (f b)) xs → Ordered R (map f xs)
+  unfolding Ordered
+  ordered-map f [] o = tt
+  ordered-map f (x ∷ xs) o = (every-map (R (f x)) f xs (o .0), ordered-map f xs (o .1))
+
+  -- parts in order, each before all later ones, are in order one after the other
+  pub ordered-each : (f : A → List B) (xs : List A) → Every (λ a. Ordered R (f a)) xs → Ordered (λ a b. Every (λ x. Every (R x) (f b)) (f a)) xs → Ordered R (each f xs)
+  unfolding Ordered Every each
+  ordered-each f [] o between = tt
+  ordered-each f (a ∷ rest) o between =
+      ordered-append R (f a) (each f rest) (o .0) (ordered-each f rest (o .1) (between .1))
+      (every-imply {P = λ x. Every (λ b. Every (R x) (f b)) rest} (λ x h. every-each (R x) f rest h) (f a)
+      (every-exchange (λ x b. Every (R x) (f b)) (f a) rest (between .0)))
+
+pub ordered-range : (R : ℕ → ℕ → Type 0) (a n : ℕ) → ((i j : ℕ) → a ≤ i → i < j → j < a + n → R i j) → Ordered R (range a n)
+unfolding Ordered range
+ordered-range R a zero h = tt
+ordered-range R a (suc n) h =
+    (every-range (R a) (suc a) n (λ i low high. h a i (omega arith) (omega arith) (omega arith)), ordered-range R (suc a) n (λ i j low less high. h i j (omega arith) less (omega arith)))
+
+-- ---- the first that passes
+
+module _ {A : Type 0} (p : A → Bool) (R : A → A → Type 0) where
+  unfoldable pub LeastFact : List A → Option A → Type 0
+  LeastFact xs none = Unit {0}
+  LeastFact xs (some x) = Every (λ y. T (p y) → R x y) xs
+
+  least-later : (x : A) (xs : List A) → (T (p x) → ⊥) → (o : Option A) → LeastFact xs o → LeastFact (x ∷ xs) o
+  unfolding LeastFact Every
+  least-later x xs fails none f = tt
+  least-later x xs fails (some y) f = (λ t. absurd (fails t), f)
+
+  pub first-least : ((x : A) → R x x) → (xs : List A) → Ordered R xs → LeastFact xs (firstOf p xs)
+  unfolding LeastFact Ordered Every firstOf
+  first-least self [] o = tt
+  first-least self (x ∷ xs) o =
+      (elim (p x) as (λ b. p x ≡ b → LeastFact (x ∷ xs) (firstOf p (x ∷ xs))) [
+        | true ↦ λ e. rw (e, firstOf) (λ _. self x, every-imply {P = R x} (λ y r _. r) xs (o .0))
+        | false ↦ λ e. rw (e, firstOf) (least-later x xs (λ t. subst T e t) (firstOf p xs) (first-least self xs (o .1)))
+      ]) refl
