@@ -5,7 +5,8 @@ use second::job::Job;
 use second::planner::PlanAnswer;
 use second::random::Random;
 
-use crate::server::Piece;
+use crate::library::Piece;
+use crate::process::number_bytes;
 
 /// How many bytes an entry of the record columns and of a told array has.
 const COLUMN: usize = 2;
@@ -56,8 +57,7 @@ pub fn told(random: &mut Random, values: usize) -> Piece {
 /// as it was".
 pub fn telling(told: &Piece, values: &[usize]) -> Piece {
     let mut after = told.clone();
-    let words = values.iter().map(|&value| (value as u64).to_le_bytes());
-    let bytes = words.collect::<Vec<_>>().concat();
+    let bytes: Vec<u8> = values.iter().copied().flat_map(number_bytes).collect();
     if let Some(first) = after.bytes.get_mut(..bytes.len()) {
         first.copy_from_slice(&bytes);
     }

@@ -11,7 +11,8 @@ use second::random::Random;
 
 use crate::counts::Counts;
 use crate::lent::{Tables, lent_bytes, lent_job, telling, told};
-use crate::server::{Call, Function, Piece, Reply, Server};
+use crate::library::{self, Call, Function, Piece, Reply};
+use crate::process::Process;
 
 /// What differs, in words.
 pub type Trial<T> = Result<T, String>;
@@ -20,7 +21,7 @@ pub type Trial<T> = Result<T, String>;
 /// it gave back so far.
 pub struct Comparer {
     pub random: Random,
-    pub server: Server,
+    pub server: Process,
     pub counts: Counts,
 }
 
@@ -28,13 +29,7 @@ impl Comparer {
     /// The planner with these tables.
     pub fn plan(&mut self, job: &Job, n: usize, tables: Tables) -> Trial<PlanAnswer> {
         let answer = answer(job, n, &tables);
-        let values = [
-            usize::from(answer.number),
-            answer.sum,
-            answer.records,
-            answer.carrier,
-            answer.other,
-        ];
+        let values = answer.told();
         let numbers = vec![job.width, job.height, job.k, job.horizon, n];
         let mut call = self.drawn_call(Function::Plan, numbers, Some(job));
         let mut pieces = call.pieces.clone();
@@ -65,14 +60,7 @@ impl Comparer {
         plan: &[u8],
         answer: CheckAnswer,
     ) -> Trial<usize> {
-        let values = [
-            usize::from(answer.number),
-            answer.carrier,
-            answer.other,
-            answer.step,
-            answer.distance,
-            usize::from(answer.swap),
-        ];
+        let values = answer.told();
         let numbers = vec![job.width, job.height, job.k, job.horizon];
         let mut call = self.drawn_call(function, numbers, Some(job));
         call.pieces.push(lent_bytes("plan", plan));
@@ -116,7 +104,7 @@ impl Comparer {
         let told = told(&mut self.random, values.len());
         wanted.push(telling(&told, values));
         call.pieces.push(told);
-        let reply = self.server.call(call);
+        let reply = library::call(&mut self.server, call);
         let reply = reply.map_err(|error| format!("the library's server: {error}"))?;
         same_reply(&reply, number, &wanted)?;
         Ok(reply.number)

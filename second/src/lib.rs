@@ -17,7 +17,6 @@
 //! | [`random`]   | a small generator of numbers from a seed                |
 //! | [`generate`] | random jobs                                             |
 //! | [`damage`]   | jobs made to be refused, books made to be refused       |
-//! | [`request`]  | the command line of a comparison                        |
 
 pub mod bar;
 pub mod book;
@@ -31,6 +30,5 @@ pub mod meeting;
 pub mod planner;
 pub mod print;
 pub mod random;
-pub mod request;
 pub mod route;
 pub mod tree;

@@ -1,5 +1,5 @@
 //! `compare_library [--rough] SEED COUNT SERVER [WORD...]` draws COUNT jobs and
-//! books and compares the library, called by SERVER (`server/server.c`), with the
+//! books and compares the library, called by SERVER (`c/server.c`), with the
 //! second program; then it tries one job for each hundred drawn at every N. With
 //! `--rough` the inputs are mostly damaged, or any bytes and numbers. It prints
 //! one line, and exits non-zero at the first difference, with the job printed.
@@ -8,11 +8,11 @@ use std::process::ExitCode;
 
 use compare::counts::Counts;
 use compare::draw::{EVERY_KIND, ROUGH};
+use compare::process::Process;
+use compare::request::{self, Request};
 use compare::rounds;
-use compare::server::Server;
 use compare::trial::Comparer;
 use second::random::Random;
-use second::request::{self, Request};
 
 /// How many jobs are drawn for one that is tried at every N.
 const DRAWN_FOR_ONE: usize = 100;
@@ -23,10 +23,9 @@ fn main() -> ExitCode {
 
 fn compare(request: &Request) -> Result<String, String> {
     let drawing = if request.rough { ROUGH } else { EVERY_KIND };
-    let server = Server::start(&request.program);
     let mut comparer = Comparer {
         random: Random::new(request.seed),
-        server: server.map_err(|error| format!("{}: {error}", request.program[0]))?,
+        server: Process::start(&request.program)?,
         counts: Counts::default(),
     };
     for number in 0..request.count {

@@ -12,19 +12,16 @@
  * checker that watches malloc.
  */
 #include "adfulmise.h"
+#include "pipes.h"
 
 enum { PAGE = 4096, READ_AND_WRITE = 3, PRIVATE_MEMORY = 0x22 };
 
-/* From the C library. */
 void *mmap(void *at, size_t size, int access, int kind, int file, long offset);
 int mprotect(void *at, size_t size, int access);
 int munmap(void *at, size_t size);
 void *malloc(size_t size);
 void free(void *memory);
-long read(int file, void *bytes, size_t size);
-long write(int file, const void *bytes, size_t size);
 int strcmp(const char *one, const char *two);
-_Noreturn void exit(int status);
 
 enum { NUMBERS = 5, PIECES = 7 };
 enum { PLAN, CHECK_ROUTES, CHECK_MEETINGS, READ, FUNCTIONS };
@@ -53,33 +50,6 @@ struct piece {
 };
 
 static int on_heap;
-
-static _Noreturn void stop(const char *why, size_t length) {
-    write(2, why, length);
-    exit(1);
-}
-
-#define STOP(why) stop(why "\n", sizeof why)
-
-/* False if the input ends before the first byte. */
-static int get(void *bytes, size_t size) {
-    size_t done = 0;
-    while (done < size) {
-        long got = read(0, (uint8_t *)bytes + done, size - done);
-        if (got <= 0 && done == 0) return 0;
-        if (got <= 0) STOP("server: the input ends inside a call");
-        done += (size_t)got;
-    }
-    return 1;
-}
-
-static void put(const void *bytes, size_t size) {
-    for (size_t done = 0; done < size;) {
-        long gone = write(1, (const uint8_t *)bytes + done, size - done);
-        if (gone <= 0) STOP("server: nobody reads the reply");
-        done += (size_t)gone;
-    }
-}
 
 static void lend_between_pages(struct piece *piece, int at_start) {
     piece->room_size = (piece->size + PAGE - 1) / PAGE * PAGE;
