@@ -48,13 +48,7 @@ fn left_by(answer: &PlanAnswer, task: &PlanTask, before: &Tables) -> Tables {
 fn compare(job: &Job, n: usize) -> u8 {
     let task = task(job, n);
     let answer = planner::plan(job, n);
-    let told = [
-        usize::from(answer.number),
-        answer.sum,
-        answer.records,
-        answer.carrier,
-        answer.other,
-    ];
+    let told = answer.told();
     let before = Tables::new(&task, 5, 0x5A);
     for side in SIDES {
         let mut tables = before.clone();

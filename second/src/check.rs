@@ -18,6 +18,22 @@ pub struct CheckAnswer {
     pub swap: bool,
 }
 
+impl CheckAnswer {
+    /// The number given back and what is told with it: carrier, other, step,
+    /// distance, and 1 for a swap.
+    pub fn told(self) -> [usize; 6] {
+        let Self {
+            number,
+            carrier,
+            other,
+            step,
+            distance,
+            swap,
+        } = self;
+        [number.into(), carrier, other, step, distance, swap.into()]
+    }
+}
+
 /// "0, or 21 with the first carrier, and its first step, at which the start, a
 /// move, a cell or the goal is wrong".
 pub fn route_check(job: &Job, plan: &[u8]) -> CheckAnswer {

@@ -18,9 +18,26 @@ pub fn book(random: &mut Random) -> Vec<u8> {
     }
 }
 
+/// Input to try a program's robustness: mostly books with faults, and bytes that
+/// never were a book.
+pub fn rough_input(random: &mut Random) -> Vec<u8> {
+    match random.below(100) {
+        0..=59 => damaged_book(random),
+        60..=84 => (0..random.below(2 * MOST_BYTES))
+            .map(|_| random.byte())
+            .collect(),
+        _ => book(random),
+    }
+}
+
 /// A job with one to three faults of checks 1 to 6.
 pub fn refused_job(random: &mut Random) -> Job {
-    let mut job = generate::job(random);
+    let job = generate::job(random);
+    spoilt_job(random, job)
+}
+
+/// The job with one to three faults of checks 1 to 6.
+pub fn spoilt_job(random: &mut Random, mut job: Job) -> Job {
     for _ in 0..random.pick(&[1, 1, 1, 2, 3]) {
         let spoil = random.pick(&[
             spoil_size,
@@ -35,15 +52,20 @@ pub fn refused_job(random: &mut Random) -> Job {
     job
 }
 
-/// A book with a fault in its bodies, in its bytes, or in both, its job in
-/// order or not.
+/// A book with a fault, its job in order or not.
 pub fn damaged_book(random: &mut Random) -> Vec<u8> {
     let job = if random.chance(80) {
         generate::job(random)
     } else {
         refused_job(random)
     };
-    let mut bodies = Bodies::of(&job);
+    damaged_book_of(random, &job)
+}
+
+/// The job's book with a fault in its bodies, in its bytes, or in both. The
+/// job's numbers must fit their bytes.
+pub fn damaged_book_of(random: &mut Random, job: &Job) -> Vec<u8> {
+    let mut bodies = Bodies::of(job);
     let (in_bodies, in_bytes) = random.pick(&[(true, false), (false, true), (true, true)]);
     if in_bodies {
         spoil_bodies(random, &mut bodies);

@@ -64,6 +64,18 @@ impl From<Outcome> for PlanAnswer {
 }
 
 impl PlanAnswer {
+    /// The number given back and what is "also told": sum, records, carrier,
+    /// other.
+    pub fn told(&self) -> [usize; 5] {
+        [
+            usize::from(self.number),
+            self.sum,
+            self.records,
+            self.carrier,
+            self.other,
+        ]
+    }
+
     /// The plan bytes: "carrier by carrier, its cells for steps 0 to H".
     pub fn plan_bytes(&self) -> Vec<u8> {
         self.routes.concat()

@@ -1,0 +1,150 @@
+//! What is lent to the library, full of anything where it is written, and what
+//! document 01 says that it holds afterwards.
+
+use second::job::Job;
+use second::planner::PlanAnswer;
+use second::random::Random;
+
+use crate::library::Piece;
+use crate::process::number_bytes;
+
+/// How many bytes an entry of the record columns and of a told array has.
+const COLUMN: usize = 2;
+const TOLD: usize = 8;
+
+pub fn any_bytes(random: &mut Random, length: usize) -> Vec<u8> {
+    (0..length).map(|_| random.byte()).collect()
+}
+
+/// Bytes that the library reads.
+pub fn lent_bytes(name: &'static str, bytes: &[u8]) -> Piece {
+    Piece {
+        name,
+        entry_size: 1,
+        bytes: bytes.to_vec(),
+    }
+}
+
+/// The hall, and the carriers: sometimes with an odd byte, which "is not read".
+pub fn lent_job(random: &mut Random, job: &Job) -> Vec<Piece> {
+    let ends = job.carriers.iter().flat_map(|c| [c.start, c.goal]);
+    let mut carriers: Vec<u8> = ends.collect();
+    if random.chance(10) {
+        carriers.push(random.byte());
+    }
+    vec![
+        lent_bytes("hall", &job.hall),
+        lent_bytes("carriers", &carriers),
+    ]
+}
+
+/// An array for told values, with up to three entries too many or, now and
+/// then, with too few.
+pub fn told(random: &mut Random, values: usize) -> Piece {
+    let entries = if random.chance(15) {
+        random.below(values)
+    } else {
+        values + random.below(4)
+    };
+    Piece {
+        name: "told",
+        entry_size: TOLD,
+        bytes: any_bytes(random, TOLD * entries),
+    }
+}
+
+/// The array afterwards: "its first ... entries become ...; with fewer it is left
+/// as it was".
+pub fn telling(told: &Piece, values: &[usize]) -> Piece {
+    let mut after = told.clone();
+    let bytes: Vec<u8> = values.iter().copied().flat_map(number_bytes).collect();
+    if let Some(first) = after.bytes.get_mut(..bytes.len()) {
+        first.copy_from_slice(&bytes);
+    }
+    after
+}
+
+/// The least lengths of record columns, plans, layers and output in entries,
+/// for a job and an N that pass checks 1 to 6: "record columns, 16-bit, at least
+/// 8 × N; plans, bytes, at least N × m × (H + 1); layers, bytes, at least (H + 1)
+/// × width × height; output, at least m × (H + 1) bytes".
+fn least_lengths(job: &Job, n: usize) -> [usize; 4] {
+    let steps = job.horizon + 1;
+    let plan = job.carriers.len() * steps;
+    [8 * n, n * plan, steps * job.width * job.height, plan]
+}
+
+/// The four tables that the planner is lent.
+pub struct Tables([Piece; 4]);
+
+impl Tables {
+    fn new(random: &mut Random, lengths: [usize; 4]) -> Self {
+        let [columns, plans, layers, output] = lengths;
+        let mut table = |name, entry_size, entries| Piece {
+            name,
+            entry_size,
+            bytes: any_bytes(random, entry_size * entries),
+        };
+        Tables([
+            table("columns", COLUMN, columns),
+            table("plans", 1, plans),
+            table("layers", 1, layers),
+            table("output", 1, output),
+        ])
+    }
+
+    /// Tables that suffice, with or without entries behind the least lengths.
+    /// For a job that is refused they are any: their lengths decide nothing.
+    pub fn enough(random: &mut Random, job: &Job, n: usize) -> Self {
+        let lengths = lengths_for(random, job, n);
+        Tables::new(random, lengths)
+    }
+
+    /// Tables of which one, now and then, is too short.
+    pub fn now_and_then_short(random: &mut Random, job: &Job, n: usize) -> Self {
+        let mut lengths = lengths_for(random, job, n);
+        if random.chance(8) && job.refusal(Some(n)).is_none() {
+            let which = random.below(4);
+            let least = least_lengths(job, n)[which];
+            lengths[which] = random.pick(&[least - 1, least - 1, least / 2, 0]);
+        }
+        Tables::new(random, lengths)
+    }
+
+    /// 7: "a lent table is too short", for a job that passes checks 1 to 6.
+    pub fn are_short(&self, job: &Job, n: usize) -> bool {
+        let mut tables = self.0.iter().zip(least_lengths(job, n));
+        tables.any(|(table, least)| table.entries() < least)
+    }
+
+    /// "After 1 to 7 no lent entry has changed. After 0, 8 and 9 the named least
+    /// lengths of the first three tables are all zero and the rest unchanged.
+    /// Output changes only for 0: carrier by carrier, its cells for steps 0 to
+    /// H, the rest unchanged."
+    pub fn after(&self, answer: &PlanAnswer, job: &Job, n: usize) -> Vec<Piece> {
+        let mut tables = self.0.clone();
+        if [0, 8, 9].contains(&answer.number) {
+            for (table, least) in tables.iter_mut().zip(least_lengths(job, n)).take(3) {
+                table.bytes[..table.entry_size * least].fill(0);
+            }
+        }
+        let plan = answer.plan_bytes();
+        tables[3].bytes[..plan.len()].copy_from_slice(&plan);
+        tables.into()
+    }
+
+    pub fn pieces(self) -> [Piece; 4] {
+        self.0
+    }
+}
+
+/// A table's length for a job that is refused lies below this.
+const ANY_LENGTH: usize = 64;
+
+fn lengths_for(random: &mut Random, job: &Job, n: usize) -> [usize; 4] {
+    let least = match job.refusal(Some(n)) {
+        None => least_lengths(job, n),
+        Some(_) => [(); 4].map(|()| random.below(ANY_LENGTH)),
+    };
+    least.map(|least| least + random.pick(&[0, 0, 1, 2, 17]))
+}
