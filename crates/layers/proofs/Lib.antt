@@ -4,6 +4,7 @@ pub mod Levels
 pub mod MadeLaws
 pub mod NearLaws
 pub mod SeekLaws
+pub mod Settled
 pub mod StepLaws
 pub mod Turns
 pub mod WriteLaws

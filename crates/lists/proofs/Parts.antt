@@ -5,8 +5,16 @@ use native.Mathlib.Omega.{arith}
 use native.Mathlib.Nat.{suc-mul, mul-le-mul-right}
 use mathlib.Core.Path.{_≡_, refl, sym, ap, _∙_}
 use mathlib.Core.List.{List, [], _∷_, _++_, append-assoc}
-use lib.ListN.{length, take, drop, length-append, length-take, length-drop}
+use lib.ListN.{length, getD, take, drop, length-append, length-take, length-drop}
 use lib.Seq.{paste, take-take, take-all, take-at, take-nil, drop-drop, drop-at, length-take-le}
+
+-- ---- a list by its entries
+
+pub same-entries : (xs ys : List ℕ) → length xs ≡ length ys → ((i : ℕ) → getD xs i 0 ≡ getD ys i 0) → xs ≡ ys
+same-entries [] [] e h = refl
+same-entries [] (y ∷ ys) e h = absurd (omega arith)
+same-entries (x ∷ xs) [] e h = absurd (omega arith)
+same-entries (x ∷ xs) (y ∷ ys) e h = rw (h 0) (ap (λ zs. y ∷ zs) (same-entries xs ys (omega arith) (λ i. h (suc i))))
 
 -- ---- a part more within n parts
 

@@ -4,4 +4,5 @@ pub mod Marking
 pub mod More
 pub mod OneMove
 pub mod Places
+pub mod Settled
 pub mod Stays

@@ -80,6 +80,12 @@ recorded capacity before x parent carrier bar sum code after e f =
       carrier-is = f .here 2 (omega arith);
       bar-is =
           rw (f .here 1 (omega arith), f .here 3 (omega arith), f .here 4 (omega arith), f .here 5 (omega arith), e) (code-bar bar);
+      code-is = (
+        f .here 1 (omega arith) ∙ ap (λ c. c .kind) e,
+        f .here 3 (omega arith) ∙ ap (λ c. c .first) e,
+        f .here 4 (omega arith) ∙ ap (λ c. c .second) e,
+        f .here 5 (omega arith) ∙ ap (λ c. c .third) e,
+      );
       sum-is = f .here 6 (omega arith);
       opened = f .here 7 (omega arith);
       others = f .others;

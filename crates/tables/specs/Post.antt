@@ -59,6 +59,7 @@ pub record Recorded (capacity : ℕ) (before : List ℕ) (x parent carrier : ℕ
   pub parent-is : parentAt capacity after x ≡ parent
   pub carrier-is : entry capacity after 2 x ≡ carrier
   pub bar-is : barAt capacity after x ≡ bar
+  pub code-is : (entry capacity after 1 x ≡ codeOf bar .kind) × (entry capacity after 3 x ≡ codeOf bar .first) × (entry capacity after 4 x ≡ codeOf bar .second) × (entry capacity after 5 x ≡ codeOf bar .third)
   pub sum-is : sumAt capacity after x ≡ sum
   pub opened : entry capacity after 7 x ≡ 1
   pub others : (c y : ℕ) → y < capacity → (y ≡ x → ⊥) → entry capacity after c y ≡ entry capacity before c y
