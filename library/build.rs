@@ -9,7 +9,10 @@ fn main() {
     let folder = root.join("target/staticlib");
     let archive = folder.join("libadfulmise.a");
     if !archive.exists() {
-        let status = Command::new("rt").args(["staticlib", "adfulmise"]).current_dir(&root).status();
+        let status = Command::new("rt")
+            .args(["staticlib", "adfulmise"])
+            .current_dir(&root)
+            .status();
         assert!(
             status.is_ok_and(|status| status.success()),
             "{} is missing, and `rt staticlib adfulmise` did not make it",

@@ -92,7 +92,10 @@ pub struct Job<'a> {
 impl Job<'_> {
     /// Start and goal of each carrier in turn.
     fn carrier_bytes(&self) -> Vec<u8> {
-        self.carriers.iter().flat_map(|carrier| [carrier.start, carrier.goal]).collect()
+        self.carriers
+            .iter()
+            .flat_map(|carrier| [carrier.start, carrier.goal])
+            .collect()
     }
 
     /// How many bytes a plan of this job has; at least the least length of `Tables::output`.
@@ -174,7 +177,13 @@ pub fn plan(job: &Job, n: usize, tables: &mut Tables) -> Told {
         );
     }
     let [number, sum, records, carrier, other] = told;
-    Told { number, sum, records, carrier, other }
+    Told {
+        number,
+        sum,
+        records,
+        carrier,
+        other,
+    }
 }
 
 /// The shape that both checks have.
@@ -214,7 +223,14 @@ fn checked(check: Check, job: &Job, plan: &[u8]) -> Fault {
         );
     }
     let [number, carrier, other, step, distance, swap] = told;
-    Fault { number, carrier, other, step, distance, is_swap: swap == 1 }
+    Fault {
+        number,
+        carrier,
+        other,
+        step,
+        distance,
+        is_swap: swap == 1,
+    }
 }
 
 /// Are the routes of a plan lawful? Number 0, 1 to 7, or 21 with a carrier and a step.
@@ -245,8 +261,18 @@ pub fn body(book: &[u8], kind: Kind) -> Result<Range<usize>, usize> {
     let mut place = [0; 2];
     // SAFETY: each pointer comes with the length of the slice or array that it is taken from, and `place` is written alone.
     let number = unsafe {
-        linked::adfulmise_read(book.as_ptr(), book.len(), kind, place.as_mut_ptr(), place.len())
+        linked::adfulmise_read(
+            book.as_ptr(),
+            book.len(),
+            kind,
+            place.as_mut_ptr(),
+            place.len(),
+        )
     };
     let [offset, length] = place;
-    if number == 0 { Ok(offset..offset + length) } else { Err(number) }
+    if number == 0 {
+        Ok(offset..offset + length)
+    } else {
+        Err(number)
+    }
 }

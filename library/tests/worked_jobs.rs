@@ -1,19 +1,35 @@
 //! Document 01's jobs worked by hand, and the printed book, through the linked library.
 
-use adfulmise::{Carrier, Fault, Job, Kind, Tables, Told, body, check_meetings, check_routes, plan};
+use adfulmise::{
+    Carrier, Fault, Job, Kind, Tables, Told, body, check_meetings, check_routes, plan,
+};
 
 const OPEN: [u8; 256] = [46; 256];
 
 fn carriers(ends: &[(u8, u8)]) -> Vec<Carrier> {
-    ends.iter().map(|&(start, goal)| Carrier { start, goal }).collect()
+    ends.iter()
+        .map(|&(start, goal)| Carrier { start, goal })
+        .collect()
 }
 
 fn job<'a>(width: usize, height: usize, carriers: &'a [Carrier], k: usize, h: usize) -> Job<'a> {
-    Job { hall: &OPEN[..width * height], width, height, carriers, k, h }
+    Job {
+        hall: &OPEN[..width * height],
+        width,
+        height,
+        carriers,
+        k,
+        h,
+    }
 }
 
 fn counted(number: usize, sum: usize, records: usize) -> Told {
-    Told { number, sum, records, ..Told::default() }
+    Told {
+        number,
+        sum,
+        records,
+        ..Told::default()
+    }
 }
 
 /// Plans with N records, and sees that a plan passes both checks and that the tables are left zero.
@@ -35,7 +51,10 @@ fn planned(job: &Job, n: usize) -> (Told, Vec<u8>) {
 fn crossing_in_three_by_three() {
     let ends = carriers(&[(3, 5), (1, 7)]);
     let crossing = job(3, 3, &ends, 0, 4);
-    assert_eq!(planned(&crossing, 3), (counted(0, 5, 3), vec![3, 3, 4, 5, 5, 1, 4, 7, 7, 7]));
+    assert_eq!(
+        planned(&crossing, 3),
+        (counted(0, 5, 3), vec![3, 3, 4, 5, 5, 1, 4, 7, 7, 7])
+    );
     assert_eq!(planned(&crossing, 2).0, counted(9, 0, 2));
     assert_eq!(
         planned(&Job { k: 1, ..crossing }, 3),
@@ -46,32 +65,55 @@ fn crossing_in_three_by_three() {
 #[test]
 fn one_carrier_in_a_row() {
     let ends = carriers(&[(0, 2)]);
-    assert_eq!(planned(&job(3, 1, &ends, 0, 2), 128), (counted(0, 2, 1), vec![0, 1, 2]));
+    assert_eq!(
+        planned(&job(3, 1, &ends, 0, 2), 128),
+        (counted(0, 2, 1), vec![0, 1, 2])
+    );
     assert_eq!(planned(&job(3, 1, &ends, 0, 1), 128).0, counted(8, 0, 0));
 }
 
 #[test]
 fn two_that_cannot_pass() {
-    assert_eq!(planned(&job(3, 1, &carriers(&[(0, 2), (2, 0)]), 0, 2), 128).0, counted(8, 0, 1));
-    assert_eq!(planned(&job(2, 1, &carriers(&[(0, 1), (1, 0)]), 0, 1), 128).0, counted(8, 0, 1));
+    assert_eq!(
+        planned(&job(3, 1, &carriers(&[(0, 2), (2, 0)]), 0, 2), 128).0,
+        counted(8, 0, 1)
+    );
+    assert_eq!(
+        planned(&job(2, 1, &carriers(&[(0, 1), (1, 0)]), 0, 1), 128).0,
+        counted(8, 0, 1)
+    );
 }
 
 #[test]
 fn one_cell() {
-    assert_eq!(planned(&job(1, 1, &carriers(&[(0, 0)]), 0, 0), 128), (counted(0, 0, 1), vec![0]));
+    assert_eq!(
+        planned(&job(1, 1, &carriers(&[(0, 0)]), 0, 0), 128),
+        (counted(0, 0, 1), vec![0])
+    );
 }
 
 #[test]
 fn one_behind_the_other() {
     let ends = carriers(&[(0, 1), (1, 2)]);
-    assert_eq!(planned(&job(3, 1, &ends, 0, 1), 128), (counted(0, 2, 1), vec![0, 1, 1, 2]));
+    assert_eq!(
+        planned(&job(3, 1, &ends, 0, 1), 128),
+        (counted(0, 2, 1), vec![0, 1, 1, 2])
+    );
     assert_eq!(planned(&job(3, 1, &ends, 1, 1), 128).0, counted(8, 0, 1));
-    assert_eq!(planned(&job(3, 1, &ends, 1, 2), 128), (counted(0, 3, 2), vec![0, 0, 1, 1, 2, 2]));
+    assert_eq!(
+        planned(&job(3, 1, &ends, 1, 2), 128),
+        (counted(0, 3, 2), vec![0, 0, 1, 1, 2, 2])
+    );
 }
 
 #[test]
 fn a_goal_that_is_crossed_later() {
-    assert_eq!(planned(&job(4, 2, &carriers(&[(6, 2), (0, 3)]), 0, 3), 128).0.sum, 6);
+    assert_eq!(
+        planned(&job(4, 2, &carriers(&[(6, 2), (0, 3)]), 0, 3), 128)
+            .0
+            .sum,
+        6
+    );
 }
 
 #[test]
@@ -80,16 +122,61 @@ fn refusals() {
     let good = job(3, 1, &two, 0, 2);
     let number = |job: &Job, n: usize| planned(job, n).0;
     assert_eq!(number(&Job { width: 17, ..good }, 8), counted(1, 0, 0));
-    assert_eq!(number(&Job { hall: &OPEN[..2], ..good }, 8), counted(2, 0, 0));
+    assert_eq!(
+        number(
+            &Job {
+                hall: &OPEN[..2],
+                ..good
+            },
+            8
+        ),
+        counted(2, 0, 0)
+    );
     assert_eq!(number(&Job { k: 5, ..good }, 8), counted(3, 0, 0));
     assert_eq!(number(&good, 1025), counted(3, 0, 0));
-    assert_eq!(number(&Job { carriers: &[], ..good }, 8), counted(4, 0, 0));
+    assert_eq!(
+        number(
+            &Job {
+                carriers: &[],
+                ..good
+            },
+            8
+        ),
+        counted(4, 0, 0)
+    );
     let outside = carriers(&[(0, 1), (1, 3)]);
-    let told = Told { number: 5, carrier: 1, ..Told::default() };
-    assert_eq!(number(&Job { carriers: &outside, ..good }, 8), told);
+    let told = Told {
+        number: 5,
+        carrier: 1,
+        ..Told::default()
+    };
+    assert_eq!(
+        number(
+            &Job {
+                carriers: &outside,
+                ..good
+            },
+            8
+        ),
+        told
+    );
     let shared = carriers(&[(0, 1), (2, 1)]);
-    let told = Told { number: 6, carrier: 0, other: 1, ..Told::default() };
-    assert_eq!(number(&Job { carriers: &shared, ..good }, 8), told);
+    let told = Told {
+        number: 6,
+        carrier: 0,
+        other: 1,
+        ..Told::default()
+    };
+    assert_eq!(
+        number(
+            &Job {
+                carriers: &shared,
+                ..good
+            },
+            8
+        ),
+        told
+    );
     let mut short = Tables::for_records(8);
     short.layers.truncate(8);
     assert_eq!(plan(&good, 8, &mut short), counted(7, 0, 0));
@@ -99,13 +186,32 @@ fn refusals() {
 fn faults_of_a_plan() {
     let ends = carriers(&[(0, 1), (1, 2)]);
     let row = job(3, 1, &ends, 1, 2);
-    let wrong = Fault { number: 21, carrier: 1, step: 2, ..Fault::default() };
+    let wrong = Fault {
+        number: 21,
+        carrier: 1,
+        step: 2,
+        ..Fault::default()
+    };
     assert_eq!(check_routes(&row, &[0, 0, 1, 1, 1, 1]), wrong);
-    let meeting = Fault { number: 22, carrier: 1, other: 0, distance: 1, ..Fault::default() };
+    let meeting = Fault {
+        number: 22,
+        carrier: 1,
+        other: 0,
+        distance: 1,
+        ..Fault::default()
+    };
     assert_eq!(check_meetings(&row, &[0, 1, 1, 1, 2, 2]), meeting);
-    let swap = Fault { number: 22, other: 1, is_swap: true, ..Fault::default() };
+    let swap = Fault {
+        number: 22,
+        other: 1,
+        is_swap: true,
+        ..Fault::default()
+    };
     let across = carriers(&[(0, 1), (1, 0)]);
-    assert_eq!(check_meetings(&job(2, 1, &across, 0, 1), &[0, 1, 1, 0]), swap);
+    assert_eq!(
+        check_meetings(&job(2, 1, &across, 0, 1), &[0, 1, 1, 0]),
+        swap
+    );
     assert_eq!(check_routes(&row, &[0, 0, 1]).number, 7);
 }
 
