@@ -1,10 +1,13 @@
 pub mod CellLaws
 pub mod Filled
+pub mod FloorLaws
 pub mod Levels
 pub mod MadeLaws
 pub mod NearLaws
+pub mod NearMade
 pub mod SeekLaws
 pub mod Settled
+pub mod SpanLaws
 pub mod StepLaws
 pub mod Turns
 pub mod WriteLaws

@@ -1,4 +1,4 @@
-use Rattle.layers.proofs.NearLaws.{edge-off, edge-on}
+use Rattle.layers.proofs.FloorLaws.{edge-off, edge-on}
 use borrow.Author.Needs.{needs}
 use Rattle.layers.proofs.edge_digit.Statement.{statement}
 use Rattle.layers.proofs.edge_digit.Tie as tie

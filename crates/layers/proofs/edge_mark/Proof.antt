@@ -1,6 +1,6 @@
 use native.Mathlib.Omega.{arith}
 use Prim.Native.Nat.{_-_}
-use Rattle.layers.proofs.NearLaws.{Edged, edge-begins, edge-more, edge-fits, edge-ends}
+use Rattle.layers.proofs.FloorLaws.{Edged, edge-begins, edge-more, edge-fits, edge-ends}
 use Rattle.layers.proofs.edge_mark.Statement.{statement}
 use Rattle.layers.proofs.edge_mark.Tie as tie
 

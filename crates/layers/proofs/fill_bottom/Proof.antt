@@ -1,6 +1,6 @@
 -- `layers::fill_bottom` meets its contract. Assumes nothing.
 use native.Mathlib.Omega.{arith}
-use Rattle.layers.proofs.NearLaws.{rows-some, bottom-row}
+use Rattle.layers.proofs.SpanLaws.{rows-some, bottom-row}
 use borrow.Author.Needs.{needs}
 use Rattle.layers.proofs.fill_bottom.Statement.{statement}
 use Rattle.layers.proofs.fill_bottom.Tie as tie

@@ -5,7 +5,7 @@ use mathlib.Core.Path.{sym, ap, _∙_}
 use lib.ListN.{getD}
 use Rattle.layers.specs.Fill.{lentHall, restedByte}
 use Rattle.layers.proofs.MadeLaws.{goal-filled, goal-nowhere}
-use Rattle.layers.proofs.NearLaws.{goal-rested}
+use Rattle.layers.proofs.SpanLaws.{goal-rested}
 use borrow.Author.Needs.{needs}
 use Rattle.layers.proofs.fill_layer.Statement.{statement}
 use Rattle.layers.proofs.fill_layer.Tie as tie

@@ -6,7 +6,7 @@ use mathlib.Core.Path.{_∙_}
 use Rattle.layers.specs.Fill.{lentHall, madeByte, Made}
 use Rattle.layers.proofs.CellLaws.{size-small}
 use Rattle.layers.proofs.MadeLaws.{made-none, rows-more}
-use Rattle.layers.proofs.NearLaws.{rows-some, start-before, filled-all}
+use Rattle.layers.proofs.SpanLaws.{rows-some, start-before, filled-all}
 use Rattle.layers.proofs.fill_rows.Statement.{statement}
 use Rattle.layers.proofs.fill_rows.Tie as tie
 

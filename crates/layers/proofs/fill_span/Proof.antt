@@ -4,7 +4,7 @@ use Prim.Native.Nat.{_+_, _-_, _*_, _≤_}
 use Rattle.layers.specs.Fill.{lentHall, madeByte, Made}
 use Rattle.layers.proofs.CellLaws.{size-small}
 use Rattle.layers.proofs.MadeLaws.{made-none}
-use Rattle.layers.proofs.NearLaws.{span-more, span-all}
+use Rattle.layers.proofs.SpanLaws.{span-more, span-all}
 use Rattle.layers.proofs.fill_span.Statement.{statement}
 use Rattle.layers.proofs.fill_span.Tie as tie
 

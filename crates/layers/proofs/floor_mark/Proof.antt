@@ -3,7 +3,7 @@ use native.Mathlib.Omega.{arith}
 use native.Mathlib.Nat.{div-le-self, mod-le}
 use mathlib.Core.Path.{sym, _∙_}
 use Rattle.layers.specs.Fill.{lentHall}
-use Rattle.layers.proofs.NearLaws.{floor-open, floor-closed}
+use Rattle.layers.proofs.FloorLaws.{floor-open, floor-closed}
 use borrow.Author.Needs.{needs}
 use Rattle.layers.proofs.floor_mark.Statement.{statement}
 use Rattle.layers.proofs.floor_mark.Tie as tie

@@ -3,7 +3,7 @@ use native.Mathlib.Omega.{arith}
 use Prim.Native.Nat.{_-_, _*_}
 use Rattle.layers.specs.Fill.{lentHall}
 use Rattle.layers.proofs.CellLaws.{size-small}
-use Rattle.layers.proofs.NearLaws.{Laid, laid-none, laid-more, laid-all}
+use Rattle.layers.proofs.FloorLaws.{Laid, laid-none, laid-more, laid-all}
 use Rattle.layers.proofs.lay_floor.Statement.{statement}
 use Rattle.layers.proofs.lay_floor.Tie as tie
 

@@ -1,5 +1,5 @@
 -- `layers::rested` meets its contract, case by case. Assumes nothing.
-use Rattle.layers.proofs.NearLaws.{rested-down, rested-same}
+use Rattle.layers.proofs.SpanLaws.{rested-down, rested-same}
 use borrow.Author.Needs.{needs}
 use Rattle.layers.proofs.rested.Statement.{statement}
 use Rattle.layers.proofs.rested.Tie as tie

@@ -3,7 +3,7 @@ use borrow.Author.Needs.{needs}
 use native.Mathlib.Omega.{arith}
 use Rattle.marks.specs.Marks.{boundBy}
 use Rattle.layers.specs.Fill.{lentHall}
-use Rattle.layers.proofs.NearLaws.{height-some}
+use Rattle.layers.proofs.SpanLaws.{height-some}
 use Rattle.layers.proofs.SeekLaws.{sought-none, sought-cost}
 use Rattle.layers.proofs.seek_route.Statement.{statement}
 use Rattle.layers.proofs.seek_route.Tie as tie

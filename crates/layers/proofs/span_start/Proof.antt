@@ -1,6 +1,6 @@
 -- `layers::span_start` meets its contract, case by case. Assumes nothing.
 use native.Mathlib.Omega.{arith}
-use Rattle.layers.proofs.NearLaws.{start-last, start-between, start-first}
+use Rattle.layers.proofs.SpanLaws.{start-last, start-between, start-first}
 use borrow.Author.Needs.{needs}
 use Rattle.layers.proofs.span_start.Statement.{statement}
 use Rattle.layers.proofs.span_start.Tie as tie

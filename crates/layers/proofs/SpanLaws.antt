@@ -1,0 +1,129 @@
+-- A layer filled span by span, from the last row to the first, and the goal mended at the end. Assumes nothing.
+use Prim.Native.Nat.{ℕ, zero, suc, _+_, _-_, _*_, _/_, _%_, _≤_, _<_}
+use native.Mathlib.Nat.{mul-comm}
+use native.Mathlib.Omega.{arith}
+use native.Mathlib.Decide.{ℕ-discrete, decLe, decLt}
+use mathlib.Core.Path.{_≡_, refl, sym, ap, subst, _∙_}
+use mathlib.Core.Bool.{Bool, true, false}
+use mathlib.Core.List.{List, map}
+use lib.Dec.{eqb}
+use lib.ListN.{length, getD, set}
+use borrow.Author.Tests.{eq-eqb, ne-eqb, lt-ltb, le-ltb, le-leb, lt-leb}
+use Rattle.hall.specs.Hall.{Hall, size}
+use Rattle.layers.specs.Layers.{crossingStarts}
+use Rattle.layers.specs.Fill.{lentHall, levelIn, leastOf, turnsBy, afterStep, mayBegin, madeLevel, madeByte, Floored, nearByte, restedByte, spanStart, Made, FilledFrom}
+use Rattle.layers.proofs.Filled.{read-level}
+use Rattle.layers.proofs.MadeLaws.{made-none, made-up, byte-same, rows-more, one-more, rows-inside}
+use Rattle.layers.proofs.CellLaws.{least-most, step-none, step-stays, step-arrives, step-more}
+use Rattle.layers.proofs.NearMade.{near-is-made}
+
+-- ---- a span
+
+module _ (width height : ℕ) (bytes floor : List ℕ) (base from v : ℕ) (a b c : List ℕ) where
+  -- one cell more
+  pub span-more : from ≤ v → v < width * height → base + width * height + v < length a → Floored (lentHall width height bytes) floor → Made base from v (madeByte (lentHall width height bytes) (width * height) a (base + width * height)) a b → c ≡ set b (base + v) (nearByte b width (base + width * height + v) (getD b (base + v) 0) (getD floor v 0)) → Made base from (v + 1) (madeByte (lentHall width height bytes) (width * height) a (base + width * height)) a c
+  span-more low high room laid m e =
+      rw e
+      (made-up base from v (madeByte (lentHall width height bytes) (width * height) a (base + width * height)) a b m low (omega arith)
+      (nearByte b width (base + width * height + v) (getD b (base + v) 0) (getD floor v 0))
+      (near-is-made width height bytes b (base + width * height) v (getD b (base + v) 0) (getD floor v 0) high (laid .marks v high)
+      ∙ byte-same (lentHall width height bytes) (width * height) a b (base + width * height) v (getD b (base + v) 0) (λ w l. m .over (base + width * height + w) (omega arith))
+      ∙ ap (madeByte (lentHall width height bytes) (width * height) a (base + width * height) v) (m .over (base + v) (omega arith))))
+
+pub span-all : (base from to v : ℕ) (byte : ℕ → ℕ → ℕ) (a b : List ℕ) → v ≤ to → to ≤ v → Made base from v byte a b → Made base from to byte a b
+span-all base from to v byte a b low high m = let same : v ≡ to = omega arith in subst (λ x. Made base from x byte a b) same m
+
+-- ---- the rows of a layer, joined
+
+pub rows-some : (width height : ℕ) → 1 ≤ height → width ≤ width * height
+rows-some width height h = let inside = rows-inside width height 0 h in omega arith
+
+pub start-last : (width size end : ℕ) → size ≤ end → size - width ≡ spanStart width size end
+unfolding spanStart
+start-last width size end h = rw (spanStart, le-leb size end h)
+
+pub start-between : (width size end : ℕ) → (size ≤ end → ⊥) → width < end → width ≡ spanStart width size end
+unfolding spanStart
+start-between width size end n h = rw (spanStart, lt-leb size end (omega (arith, n)), lt-ltb width end h)
+
+pub start-first : (width size end : ℕ) → (size ≤ end → ⊥) → (width < end → ⊥) → 0 ≡ spanStart width size end
+unfolding spanStart
+start-first width size end n k = rw (spanStart, lt-leb size end (omega (arith, n)), le-ltb width end (omega (arith, k)))
+
+pub start-before : (width size end : ℕ) → 1 ≤ width → width ≤ size → 0 < end → spanStart width size end < end
+start-before width size end wide some h = go (decLe size end) (decLt width end)
+  where
+    go : Dec (size ≤ end) → Dec (width < end) → spanStart width size end < end
+    go (yes l) k = omega (arith, start-last width size end l)
+    go (no n) (yes l) = omega (arith, start-between width size end n l)
+    go (no n) (no k) = omega (arith, start-first width size end n k)
+
+module _ (width height : ℕ) (bytes : List ℕ) (base : ℕ) (a : List ℕ) where
+  -- nothing is filled yet
+  pub bottom-none : base + width * height + width * height + width ≤ length a → FilledFrom (lentHall width height bytes) base a (width * height) a
+  bottom-none room = record { within = omega arith; room = room; made = made-none base (width * height) (width * height) (madeByte (lentHall width height bytes) (width * height) a (base + width * height)) a (omega arith) }
+
+  -- the last row is, by its cells
+  pub bottom-row : (b : List ℕ) → 1 ≤ height → base + width * height + width * height ≤ length a → Made base ((height - 1) * width) ((height - 1) * width + width) (madeByte (lentHall width height bytes) (width * height) a (base + width * height)) a b → FilledFrom (lentHall width height bytes) base a (width * height - width) b
+  bottom-row b some room m =
+      let less : height - 1 + 1 ≡ height = omega arith in
+      let end : (height - 1) * width + width ≡ width * height = sym (one-more (height - 1) width) ∙ ap (λ x. x * width) less ∙ mul-comm height width in
+      let start : (height - 1) * width ≡ width * height - width = omega arith in
+      record {
+        within = omega arith;
+        room = omega arith;
+        made = subst (λ x. Made base x (width * height) (madeByte (lentHall width height bytes) (width * height) a (base + width * height)) a b) start
+            (subst (λ x. Made base ((height - 1) * width) x (madeByte (lentHall width height bytes) (width * height) a (base + width * height)) a b) end m);
+      }
+
+  -- and the spans before it
+  pub filled-all : (b c : List ℕ) (end from : ℕ) → FilledFrom (lentHall width height bytes) base a end b → Made base from end (madeByte (lentHall width height bytes) (width * height) b (base + width * height)) b c → from ≡ 0 → Made base 0 (width * height) (madeByte (lentHall width height bytes) (width * height) a (base + width * height)) a c
+  filled-all b c end from f m e =
+      rows-more (lentHall width height bytes) (width * height) base 0 end (width * height) a b c (omega arith) (f .made)
+      (subst (λ x. Made base x end (madeByte (lentHall width height bytes) (width * height) b (base + width * height)) b c) e m)
+      (omega arith) (f .within)
+
+-- ---- the goal
+
+-- a byte whose level is not 1 is left as it is
+rested-kept : (l mark : ℕ) → l ≤ 127 → (l ≡ 1 → ⊥) → l + crossingStarts mark ≡ restedByte (l + crossingStarts mark)
+unfolding restedByte
+rested-kept l mark h n = rw (restedByte, read-level l mark h, ne-eqb l 1 n)
+
+rested-one : (mark : ℕ) → crossingStarts mark ≡ restedByte (1 + crossingStarts mark)
+unfolding restedByte
+rested-one mark = rw (restedByte, read-level 1 mark (omega arith)) (omega arith)
+
+step-rested : (least mark : ℕ) → least ≤ 127 → afterStep true least + crossingStarts mark ≡ restedByte (afterStep false least + crossingStarts mark)
+step-rested least mark h = go (ℕ-discrete least 127) (ℕ-discrete least 0)
+  where
+    go : Dec (least ≡ 127) → Dec (least ≡ 0) → afterStep true least + crossingStarts mark ≡ restedByte (afterStep false least + crossingStarts mark)
+    go (yes e) z =
+        rw (sym (step-none true least e), sym (step-none false least e)) (rested-kept 127 mark (omega arith) (λ q. absurd (omega arith)))
+    go (no n) (yes e) =
+        rw (sym (step-stays true least refl e), sym (step-arrives false least refl e)) (omega (arith, rested-one mark))
+    go (no n) (no k) =
+        rw (sym (step-more true least n k), sym (step-more false least n k)) (rested-kept (least + 1) mark (omega (arith, n)) (λ q. k (omega arith)))
+
+pub rested-down : (byte : ℕ) → byte % 128 ≡ 1 → byte - 1 ≡ restedByte byte
+unfolding restedByte
+rested-down byte e = rw (restedByte, e)
+
+pub rested-same : (byte : ℕ) → (byte % 128 ≡ 1 → ⊥) → byte ≡ restedByte byte
+unfolding restedByte
+rested-same byte n = rw (restedByte, ne-eqb (byte % 128) 1 n)
+
+pub goal-rested : (hall : Hall) (layers : List ℕ) (next goal mark : ℕ) → goal < size hall → madeByte hall goal layers next goal mark ≡ restedByte (madeByte hall (size hall) layers next goal mark)
+unfolding madeByte madeLevel
+goal-rested hall layers next goal mark inside = go (mayBegin hall goal mark)
+  where
+    least : ℕ
+    least = leastOf (map (levelIn layers next) (turnsBy (hall .width) (hall .height) (goal / hall .width) (goal % hall .width) mark))
+
+    go : (b : Bool) → elim b [ true ↦ afterStep (eqb goal goal) least | false ↦ 127 ] + crossingStarts mark ≡ restedByte (elim b [ true ↦ afterStep (eqb goal (size hall)) least | false ↦ 127 ] + crossingStarts mark)
+    go true = rw (eq-eqb goal goal refl, ne-eqb goal (size hall) (λ q. omega arith)) (step-rested least mark (least-most (map (levelIn layers next) (turnsBy (hall .width) (hall .height) (goal / hall .width) (goal % hall .width) mark))))
+    go false = rested-kept 127 mark (omega arith) (λ q. absurd (omega arith))
+
+pub height-some : (width height start : ℕ) → start < width * height → 1 ≤ height
+height-some width zero start h = absurd (omega arith)
+height-some width (suc n) start h = omega arith
