@@ -4,7 +4,7 @@
 -- `Planned job n before r after` is the whole contract of the planner (`entry::plan`; crate planner, specs/Post.antt): called with
 -- this job, N = n and these lent tables it may give back r and leave the tables `after`. The contract of the route check
 -- (`entry::check_routes`) is `r ≡ routeVerdict job plan`, that of the meeting check `m ≡ meetingVerdict job plan`. None of the
--- three has a `requires`, and the prover accepts no function that might not end.
+-- three has a `requires`, and each ends: the prover takes no loop and no recursion without a measure that falls.
 -- Words used: a job, `Lawful` routes and their `cost`, `Apart` (no meeting, no swap), patterns of holds (`Survives`), the lent
 -- `Tables`: crates job, routes, clashes, tree, tables, in specs/.
 use Prim.Native.Nat.{ℕ, _≤_, _<_}
