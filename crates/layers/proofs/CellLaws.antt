@@ -187,7 +187,7 @@ step-small b least h = go b (eqb least 127) refl
     go b true e = omega arith
     go b false e = let n : ¬ (least ≡ 127) = eqb-false least 127 e in omega (arith, step-most b least)
 
-pub made-small : (hall : Hall) (goal : ℕ) (f : ℕ → ℕ) (v mark : ℕ) → madeLevel hall goal f v mark ≤ 127
+made-small : (hall : Hall) (goal : ℕ) (f : ℕ → ℕ) (v mark : ℕ) → madeLevel hall goal f v mark ≤ 127
 unfolding madeLevel
 made-small hall goal f v mark = go (mayBegin hall v mark)
   where
@@ -195,7 +195,7 @@ made-small hall goal f v mark = go (mayBegin hall v mark)
     go true = step-small (eqb v goal) (leastOf (map f (turnsBy (hall .width) (hall .height) (v / hall .width) (v % hall .width) mark))) (least-most (map f (turnsBy (hall .width) (hall .height) (v / hall .width) (v % hall .width) mark)))
     go false = omega arith
 
-pub last-small : (hall : Hall) (goal v mark : ℕ) → lastLevel hall goal v mark ≤ 127
+last-small : (hall : Hall) (goal v mark : ℕ) → lastLevel hall goal v mark ≤ 127
 unfolding lastLevel
 last-small hall goal v mark = go (mayBegin hall v mark && eqb v goal)
   where

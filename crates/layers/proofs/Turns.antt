@@ -71,14 +71,6 @@ mark-bars width height bars t v = go (anyOf (barsCell t v) bars)
     go true = refl
     go false = ne-eqb (marked (barsMove width height bars t v)) 255 (λ e. let l = marked-small (barsMove width height bars t v) in absurd (omega arith))
 
-pub mark-small : (width height : ℕ) (bars : List Bar) (t v : ℕ) → markOf width height bars t v ≤ 255
-unfolding markOf
-mark-small width height bars t v = go (anyOf (barsCell t v) bars)
-  where
-    go : (b : Bool) → elim b [ true ↦ 255 | false ↦ marked (barsMove width height bars t v) ] ≤ 255
-    go true = omega arith
-    go false = omega (arith, marked-small (barsMove width height bars t v))
-
 pub mark-begins : (hall : Hall) (bars : List Bar) (t v : ℕ) → mayBegin hall v (markOf (hall .width) (hall .height) bars t v) ≡ mayStand hall bars t v
 unfolding mayBegin mayStand
 mark-begins hall bars t v = rw (mark-bars (hall .width) (hall .height) bars t v)

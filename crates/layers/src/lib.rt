@@ -21,13 +21,10 @@ ghost use Rattle.layers.specs.Write.{hasLevel, goneTo, writtenFrom};
 ghost use Rattle.layers.specs.Fill.{lentHall, levelIn, leastOf, leastTo, odd, unless, turnsBy, afterStep, orNone, leaves, edgeMark, floorMark, nearEntry, nearLevel, nearByte, restedByte, madeLevel, lastLevel, madeByte, lastByte, spanStart, Floored, Made, FilledFrom, MadeFrom, Levelled};
 
 // The level of a cell from which there is no way to the goal.
-const NO_WAY: usize = 127;
+const NO_WAY: u8 = 127;
 
 // Added to the level where a barred crossing starts.
-const CROSSING: usize = 128;
-
-// The mark of a cell that a bar forbids.
-const BARRED: usize = 255;
+const CROSSING: u8 = 128;
 
 // What seeking a route finds: none, or one of this cost.
 pub enum Sought {
@@ -37,11 +34,11 @@ pub enum Sought {
 
 // ---- one cell
 
-fn level_at(layers: &[u8], at: usize) -> usize
+fn level_at(layers: &[u8], at: usize) -> u8
     requires { ⌜ at < length (now layers) ⌝ }
     ensures { λ r. ⌜ r ≡ getD (now (layers .entry)) at 0 % 128 ⌝ }
 {
-    (layers[at] % 128) as usize
+    layers[at] % 128
 }
 
 // The level that move m leads to in the layer that starts at `next`.
@@ -53,7 +50,7 @@ fn level_by(
     row: usize,
     col: usize,
     m: usize,
-) -> usize
+) -> u8
     requires { ⌜ (width ≤ 16) × (height ≤ 16) × (row < height) × (col < width) × (m < 5) × (next + width * height ≤ length (now layers)) ⌝ }
     ensures { λ r. ⌜ r ≡ leastOf (map (levelIn (now (layers .entry)) next) (landing width height row col m)) ⌝ }
 {
@@ -73,8 +70,8 @@ fn free_level(
     row: usize,
     col: usize,
     m: usize,
-    rest: usize,
-) -> usize
+    rest: u8,
+) -> u8
     requires { ⌜ (width ≤ 16) × (height ≤ 16) × (row < height) × (col < width) × (m < 5) × (next + width * height ≤ length (now layers)) ⌝ }
     ensures { λ r. ⌜ r ≡ leastOf (map (levelIn (now (layers .entry)) next) (unless (odd rest) (landing width height row col m))) ⌝ }
 {
@@ -84,7 +81,7 @@ fn free_level(
     level_by(layers, width, height, next, row, col, m)
 }
 
-fn lesser(a: usize, b: usize) -> usize
+fn lesser(a: u8, b: u8) -> u8
     ensures { λ r. ⌜ r ≡ min a b ⌝ }
 {
     if a <= b { a } else { b }
@@ -98,8 +95,8 @@ fn least_on(
     next: usize,
     row: usize,
     col: usize,
-    mark: usize,
-) -> usize
+    mark: u8,
+) -> u8
     requires { ⌜ (width ≤ 16) × (height ≤ 16) × (row < height) × (col < width) × (next + width * height ≤ length (now layers)) ⌝ }
     ensures { λ r. ⌜ r ≡ leastOf (map (levelIn (now (layers .entry)) next) (turnsBy width height row col mark)) ⌝ }
 {
@@ -118,7 +115,7 @@ fn least_on(
 }
 
 // One step more in front: nothing is added only where all of the rest is on the goal, and this too.
-fn after_step(stays: bool, least: usize) -> usize
+fn after_step(stays: bool, least: u8) -> u8
     requires { ⌜ least ≤ 127 ⌝ }
     ensures { λ r. ⌜ r ≡ afterStep stays least ⌝ }
 {
@@ -144,13 +141,13 @@ fn cell_level(
     next: usize,
     row: usize,
     col: usize,
-    mark: usize,
-) -> usize
+    mark: u8,
+) -> u8
     requires { ⌜ (width ≤ 16) × (height ≤ 16) × (row < height) × (col < width) × (next + width * height ≤ length (now layers)) ⌝ }
     ensures { λ r. ⌜ r ≡ madeLevel (lentHall width height (now (hall .entry))) goal (levelIn (now (layers .entry)) next) (row * width + col) mark ⌝ }
 {
     let v = row * width + col;
-    if mark == BARRED {
+    if mark == marks::BARRED {
         return NO_WAY;
     }
     if hall::is_open(hall, width, height, v) {
@@ -171,15 +168,15 @@ fn crossing(mark: u8) -> u8
     if mark == marks::BARRED {
         return 0;
     }
-    CROSSING as u8
+    CROSSING
 }
 
 // The level of a cell at the horizon.
-fn last_level(hall: &[u8], width: usize, height: usize, goal: usize, v: usize, mark: usize) -> usize
+fn last_level(hall: &[u8], width: usize, height: usize, goal: usize, v: usize, mark: u8) -> u8
     requires { ⌜ (width ≤ 16) × (height ≤ 16) ⌝ }
     ensures { λ r. ⌜ r ≡ lastLevel (lentHall width height (now (hall .entry))) goal v mark ⌝ }
 {
-    if mark == BARRED {
+    if mark == marks::BARRED {
         return NO_WAY;
     }
     if v != goal {
@@ -217,9 +214,9 @@ fn fill_cell(
         base + width * height,
         row,
         col,
-        mark as usize,
+        mark,
     );
-    layers[at] = level as u8 + crossing(mark);
+    layers[at] = level + crossing(mark);
 }
 
 fn fill_row(
@@ -301,30 +298,24 @@ fn near_level(layers: &[u8], width: usize, under: usize, m: usize, rest: u8, shu
 {
     let level = layers[under + width * hall::down(m) + hall::right(m) - (width + 1)] % 128;
     if rest % 2 == 1 {
-        return NO_WAY as u8;
+        return NO_WAY;
     }
     if shut % 2 == 1 {
-        return NO_WAY as u8;
+        return NO_WAY;
     }
     level
-}
-
-fn lesser_byte(a: u8, b: u8) -> u8
-    ensures { λ r. ⌜ r ≡ min a b ⌝ }
-{
-    if a <= b { a } else { b }
 }
 
 fn least_near(layers: &[u8], width: usize, under: usize, mark: u8, floor: u8) -> u8
     requires { ⌜ (1 ≤ width) × (width ≤ 16) × (width ≤ under) × (under + width < length (now layers)) ⌝ }
     ensures { λ r. ⌜ r ≡ leastTo moveCount (nearLevel (now (layers .entry)) width under mark floor) ⌝ }
 {
-    let mut least = NO_WAY as u8;
+    let mut least = NO_WAY;
     let mut rest = mark;
     let mut shut = floor;
     let mut m = 0;
     while m < hall::MOVE_COUNT {
-        least = lesser_byte(least, near_level(layers, width, under, m, rest, shut));
+        least = lesser(least, near_level(layers, width, under, m, rest, shut));
         rest = rest / 2;
         shut = shut / 2;
         m += 1;
@@ -338,13 +329,13 @@ fn way_on(mark: u8, floor: u8, least: u8) -> u8
     ensures { λ r. ⌜ r ≡ orNone (eqb mark 255 || eqb floor 255) (afterStep false least) ⌝ }
 {
     if mark == marks::BARRED {
-        return NO_WAY as u8;
+        return NO_WAY;
     }
     if floor == marks::BARRED {
-        return NO_WAY as u8;
+        return NO_WAY;
     }
-    if least == NO_WAY as u8 {
-        return NO_WAY as u8;
+    if least == NO_WAY {
+        return NO_WAY;
     }
     least + 1
 }
@@ -476,7 +467,7 @@ fn last_cell(
 {
     let at = base + v;
     let mark = layers[at];
-    layers[at] = last_level(hall, width, height, goal, v, mark as usize) as u8 + crossing(mark);
+    layers[at] = last_level(hall, width, height, goal, v, mark) + crossing(mark);
 }
 
 // The layer at the horizon.
@@ -569,7 +560,7 @@ pub fn seek_route(
     if level == NO_WAY {
         return Sought::Nothing;
     }
-    Sought::Cost(level)
+    Sought::Cost(level as usize)
 }
 
 // ---- the route, read off the layers
@@ -581,11 +572,11 @@ fn goes_by(
     width: usize,
     height: usize,
     next: usize,
-    target: usize,
+    target: u8,
     row: usize,
     col: usize,
     m: usize,
-    rest: usize,
+    rest: u8,
 ) -> Landing
     requires { ⌜ (width ≤ 16) × (height ≤ 16) × (row < height) × (col < width) × (m < 5) × (next + width * height ≤ length (now layers)) ⌝ }
     ensures { λ r. ⌜ landed r ≡ keep (hasLevel (now (layers .entry)) next target) (unless (odd rest) (landing width height row col m)) ⌝ }
@@ -607,7 +598,7 @@ fn goes_by(
 
 // The cell at t + 1 of the best way on from v at t, where this is the mark: the first of the level wanted, in the order of moves, which
 // is that of cells; the cell itself where there is none.
-fn step_on(layers: &[u8], width: usize, height: usize, t: usize, v: usize, mark: usize) -> usize
+fn step_on(layers: &[u8], width: usize, height: usize, t: usize, v: usize, mark: u8) -> usize
     requires { ⌜ (1 ≤ width) × (width ≤ 16) × (height ≤ 16) × (v < width * height) × (t < 63) × ((t + 1) * (width * height) + width * height ≤ length (now layers)) ⌝ }
     requires { ⌜ 1 ≤ getD (now layers) (t * (width * height) + v) 0 % 128 ⌝ }
     ensures { λ r. ⌜ r ≡ goneTo (now (layers .entry)) ((t + 1) * (width * height)) (getD (now (layers .entry)) (t * (width * height) + v) 0 % 128 - 1) v (turnsBy width height (v / width) (v % width) mark) ⌝ }
@@ -689,7 +680,7 @@ fn write_barred(
     let mut t = step;
     while level_at(layers, t * size + v) != 0 {
         stretch[t] = v as u8;
-        v = step_on(layers, width, height, t, v, ways[t * size + v] as usize);
+        v = step_on(layers, width, height, t, v, ways[t * size + v]);
         t += 1;
     }
     stay_on(t, v, stretch);
@@ -724,7 +715,7 @@ pub fn write_route(
     let mut v = start;
     let mut t = 0;
     while level_at(layers, t * size + v) != 0 {
-        if CROSSING <= layers[t * size + v] as usize {
+        if CROSSING <= layers[t * size + v] {
             write_barred(
                 hall,
                 width,

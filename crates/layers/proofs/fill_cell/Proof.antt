@@ -3,8 +3,8 @@ use native.Mathlib.Omega.{arith}
 use Prim.Native.Nat.{_+_, _*_}
 use mathlib.Core.Path.{ap}
 use lib.ListN.{getD, set}
-use Rattle.layers.specs.Fill.{lentHall, levelIn}
-use Rattle.layers.proofs.CellLaws.{size-small, cell-inside, made-small, byte-made}
+use Rattle.layers.specs.Fill.{lentHall}
+use Rattle.layers.proofs.CellLaws.{size-small, cell-inside, byte-made}
 use borrow.Author.Needs.{needs}
 use Rattle.layers.proofs.fill_cell.Statement.{statement}
 use Rattle.layers.proofs.fill_cell.Tie as tie
@@ -27,14 +27,8 @@ mul-cell-level c = search needs
 add-cell-level : tie.Need-add-cell-level
 add-cell-level c = search needs
 
-cast-cell-level : tie.Need-cast-cell-level
-cast-cell-level c = omega (arith, c .before .slice-known2 .given (c .before .before .before .before .args .base + (c .before .before .before .before .args .row * c .before .before .before .before .args .width + c .before .before .before .before .args .col)))
-
 cell-level-requires : tie.Need-cell-level-requires
 cell-level-requires c κs = search needs
-
-cast-layers : tie.Need-cast-layers
-cast-layers c = let s = made-small (lentHall (c .before .before .before .before .before .args .width) (c .before .before .before .before .before .args .height) (c .before .before .before .before .before .args .hall .now)) (c .before .before .before .before .before .args .goal) (levelIn (c .before .before .before .before .before .args .layers .now) (c .before .before .before .before .before .args .base + c .before .before .before .before .before .args .width * c .before .before .before .before .before .args .height)) (c .before .before .before .before .before .args .row * c .before .before .before .before .before .args .width + c .before .before .before .before .before .args .col) (getD (c .before .before .before .before .before .args .layers .now) (c .before .before .before .before .before .args .base + (c .before .before .before .before .before .args .row * c .before .before .before .before .before .args .width + c .before .before .before .before .before .args .col)) 0) in omega (arith, c .cell-level .ensures)
 
 crossing-requires : tie.Need-crossing-requires
 crossing-requires c κs = search needs
@@ -61,9 +55,7 @@ fill-cell-spec =
     slice-read-mark
     mul-cell-level
     add-cell-level
-    cast-cell-level
     cell-level-requires
-    cast-layers
     crossing-requires
     add-layers
     slice-write-layers

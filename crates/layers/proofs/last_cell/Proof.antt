@@ -3,7 +3,7 @@ use Prim.Native.Nat.{_+_}
 use mathlib.Core.Path.{ap}
 use lib.ListN.{getD, set}
 use Rattle.layers.specs.Fill.{lentHall}
-use Rattle.layers.proofs.CellLaws.{last-small, byte-last}
+use Rattle.layers.proofs.CellLaws.{byte-last}
 use borrow.Author.Needs.{needs}
 use Rattle.layers.proofs.last_cell.Statement.{statement}
 use Rattle.layers.proofs.last_cell.Tie as tie
@@ -14,14 +14,8 @@ add-at c = search needs
 slice-read-mark : tie.Need-slice-read-mark
 slice-read-mark c = search needs
 
-cast-last-level : tie.Need-cast-last-level
-cast-last-level c = omega (arith, c .slice-known2 .given (c .before .before .before .args .base + c .before .before .before .args .v))
-
 last-level-requires : tie.Need-last-level-requires
 last-level-requires c κs = search needs
-
-cast-layers : tie.Need-cast-layers
-cast-layers c = let s = last-small (lentHall (c .before .before .before .before .args .width) (c .before .before .before .before .args .height) (c .before .before .before .before .args .hall .now)) (c .before .before .before .before .args .goal) (c .before .before .before .before .args .v) (getD (c .before .before .before .before .args .layers .now) (c .before .before .before .before .args .base + c .before .before .before .before .args .v) 0) in omega (arith, c .last-level .ensures)
 
 crossing-requires : tie.Need-crossing-requires
 crossing-requires c κs = search needs
@@ -44,9 +38,7 @@ last-cell-spec =
     (tie.spec
     add-at
     slice-read-mark
-    cast-last-level
     last-level-requires
-    cast-layers
     crossing-requires
     add-layers
     slice-write-layers

@@ -11,17 +11,14 @@ Inv-loop layers width under mark floor least₀ rest₀ shut₀ m₀ least rest 
 abbrev μ-loop : tie.MeasureT-loop
 μ-loop layers width under mark floor least₀ rest₀ shut₀ m₀ least rest shut m = 5 - m
 
-cast-least : tie.Need-cast-least Inv-loop μ-loop
-cast-least c = search needs
-
 loop-holds : tie.Need-loop-holds Inv-loop μ-loop
 loop-holds c = near-begins (c .before .args .layers .now) (c .before .args .width) (c .before .args .under) (c .before .args .mark) (c .before .args .floor)
 
 near-level-requires : tie.Need-near-level-requires Inv-loop μ-loop
 near-level-requires c κs = omega arith
 
-lesser-byte-requires : tie.Need-lesser-byte-requires Inv-loop μ-loop
-lesser-byte-requires c κs = search needs
+lesser-requires : tie.Need-lesser-requires Inv-loop μ-loop
+lesser-requires c κs = search needs
 
 add-m : tie.Need-add-m Inv-loop μ-loop
 add-m c = omega arith
@@ -30,7 +27,7 @@ loop-less : tie.Need-loop-less Inv-loop μ-loop
 loop-less c = omega arith
 
 loop-again : tie.Need-loop-again Inv-loop μ-loop
-loop-again c = near-more (c .before .before .before .before .before .args .layers .now) (c .before .before .before .before .before .args .width) (c .before .before .before .before .before .args .under) (c .before .before .before .before .before .args .mark) (c .before .before .before .before .before .args .floor) (c .before .before .before .loop .least) (c .before .before .before .loop .rest) (c .before .before .before .loop .shut) (c .before .before .before .loop .m) (c .before .near-level .result) (c .lesser-byte .result) (c .before .before .before .loop .inv) (c .before .before .loop-test .taken) (c .before .near-level .ensures) (c .lesser-byte .ensures)
+loop-again c = near-more (c .before .before .before .before .before .args .layers .now) (c .before .before .before .before .before .args .width) (c .before .before .before .before .before .args .under) (c .before .before .before .before .before .args .mark) (c .before .before .before .before .before .args .floor) (c .before .before .before .loop .least) (c .before .before .before .loop .rest) (c .before .before .before .loop .shut) (c .before .before .before .loop .m) (c .before .near-level .result) (c .lesser .result) (c .before .before .before .loop .inv) (c .before .before .loop-test .taken) (c .before .near-level .ensures) (c .lesser .ensures)
 
 returns : tie.Need-returns Inv-loop μ-loop
 returns c = near-ends (c .before .before .before .args .layers .now) (c .before .before .before .args .width) (c .before .before .before .args .under) (c .before .before .before .args .mark) (c .before .before .before .args .floor) (c .before .loop .least) (c .before .loop .rest) (c .before .loop .shut) (c .before .loop .m) (c .before .loop .inv) (c .loop-test .left)
@@ -41,10 +38,9 @@ least-near-spec =
     (tie.spec
     Inv-loop
     μ-loop
-    cast-least
     loop-holds
     near-level-requires
-    lesser-byte-requires
+    lesser-requires
     add-m
     loop-less
     loop-again

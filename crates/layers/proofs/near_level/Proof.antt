@@ -33,14 +33,8 @@ sub-level c = let b = near-facts (c .before .before .before .args .width) (c .be
 shared-slice-read-level : tie.Need-shared-slice-read-level
 shared-slice-read-level c = let b = near-facts (c .before .before .before .before .args .width) (c .before .before .before .before .args .under) (c .before .before .before .before .args .m) (c .before .before .down .result) (c .before .right .result) (omega arith) (omega arith) (omega arith) (c .before .before .down .ensures) (c .before .right .ensures) in omega (arith, b .high)
 
-cast-result : tie.Need-cast-result
-cast-result c = search needs
-
 returns : tie.Need-returns
 returns c = digit-bars (c .before .before .before .before .before .args .rest) (c .before .before .before .before .before .args .shut) (getD (c .before .before .before .before .before .args .layers .now) (nearEntry (c .before .before .before .before .before .args .width) (c .before .before .before .before .before .args .under) (c .before .before .before .before .before .args .m)) 0 % 128) (c .if1 .taken)
-
-cast-result-2 : tie.Need-cast-result-2
-cast-result-2 c = search needs
 
 returns-2 : tie.Need-returns-2
 returns-2 c = floor-bars (c .before .before .before .before .before .before .args .rest) (c .before .before .before .before .before .before .args .shut) (getD (c .before .before .before .before .before .before .args .layers .now) (nearEntry (c .before .before .before .before .before .before .args .width) (c .before .before .before .before .before .before .args .under) (c .before .before .before .before .before .before .args .m)) 0 % 128) (c .if2 .taken)
@@ -60,8 +54,6 @@ near-level-spec =
     add-level-3
     sub-level
     shared-slice-read-level
-    cast-result
     returns
-    cast-result-2
     returns-2
     returns-3)

@@ -23,6 +23,9 @@ same-length c = search needs
 returns : tie.Need-returns
 returns c = sought-none (lentHall (c .before .before .before .before .before .before .before .before .before .before .before .before .before .before .args .width) (c .before .before .before .before .before .before .before .before .before .before .before .before .before .before .args .height) (c .before .before .before .before .before .before .before .before .before .before .before .before .before .before .args .hall .now)) (boundBy (c .before .before .before .before .before .before .before .before .before .before .before .before .before .before .args .capacity) (c .before .before .before .before .before .before .before .before .before .before .before .before .before .before .args .columns .now) (c .before .before .before .before .before .before .before .before .before .before .before .before .before .before .args .node) (c .before .before .before .before .before .before .before .before .before .before .before .before .before .before .args .carrier) (c .before .before .before .before .before .before .before .before .before .before .before .before .before .before .args .bar)) (c .before .before .before .before .before .before .before .before .before .before .before .before .before .before .args .start) (c .before .before .before .before .before .before .before .before .before .before .before .before .before .before .args .goal) (c .before .before .before .before .before .before .before .before .before .before .before .before .before .before .args .h) (c .before .before .before .before .before .before .before .before .before .before .before .before .before .before .args .layers .now) (c .before .before .before .before .before .before .before .before .before .mark-all .last .0) (c .before .before .before .before .before .fill .last .1 .1 .1 .1 .1 .0) (c .before .before .before .before .before .before .before .before .before .before .before .before .before .before .pre .0 .0 .late) (c .before .before .before .before .before .before .before .before .before .before .before .before .before .before .pre .0 .1) (c .before .before .before .before .before .before .before .before .before .mark-all .ensures) (c .before .before .before .before .before .fill .ensures) (c .before .level-at .result) (c .before .level-at .ensures) (c .if1 .taken)
 
+cast-t22 : tie.Need-cast-t22
+cast-t22 c = omega (arith, c .before .level-at .ensures)
+
 same-length-2 : tie.Need-same-length-2
 same-length-2 c = search needs
 
@@ -38,5 +41,6 @@ seek-route-spec =
     level-at-requires
     same-length
     returns
+    cast-t22
     same-length-2
     returns-2)

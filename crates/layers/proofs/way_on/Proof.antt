@@ -3,23 +3,11 @@ use borrow.Author.Needs.{needs}
 use Rattle.layers.proofs.way_on.Statement.{statement}
 use Rattle.layers.proofs.way_on.Tie as tie
 
-cast-result : tie.Need-cast-result
-cast-result c = search needs
-
 returns : tie.Need-returns
 returns c = on-barred (c .before .args .mark) (c .before .args .floor) (c .before .args .least) (c .if1 .taken)
 
-cast-result-2 : tie.Need-cast-result-2
-cast-result-2 c = search needs
-
 returns-2 : tie.Need-returns-2
 returns-2 c = on-closed (c .before .before .args .mark) (c .before .before .args .floor) (c .before .before .args .least) (c .if2 .taken)
-
-cast-if3 : tie.Need-cast-if3
-cast-if3 c = search needs
-
-cast-result-3 : tie.Need-cast-result-3
-cast-result-3 c = search needs
 
 returns-3 : tie.Need-returns-3
 returns-3 c = on-none (c .before .before .before .args .mark) (c .before .before .before .args .floor) (c .before .before .before .args .least) (c .before .before .if1 .left) (c .before .if2 .left) (c .if3 .taken)
@@ -34,12 +22,8 @@ pub way-on-spec : {M : Type 1} → statement M
 way-on-spec =
     tie.close
     (tie.spec
-    cast-result
     returns
-    cast-result-2
     returns-2
-    cast-if3
-    cast-result-3
     returns-3
     add-result
     returns-4)

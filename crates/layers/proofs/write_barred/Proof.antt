@@ -12,7 +12,6 @@ use Rattle.marks.proofs.Places.{bounds}
 use Rattle.layers.specs.Layers.{wayFrom, Filled}
 use Rattle.layers.specs.Fill.{lentHall}
 use Rattle.layers.specs.Write.{writtenFrom}
-use Rattle.layers.proofs.Turns.{mark-small}
 use Rattle.lists.proofs.Parts.{part-within}
 use Rattle.layers.proofs.WriteLaws.{Writing, layered-ways, write-begins, turns-before, write-turn, write-stays}
 use Rattle.layers.proofs.write_barred.Statement.{statement}
@@ -96,13 +95,6 @@ array-read-step-on c =
     let place = bounds (a .width) (a .height) (a .h) (c .before .before .loop .t) (c .before .before .loop .v) (a .layers .now) (c .before .before .before .before .before .before .before .before .before .before .pre .0 .0) (omega (arith, f .sum)) (f .inside) in
     omega arith
 
-cast-step-on : tie.Need-cast-step-on Inv-loop μ-loop
-cast-step-on c =
-    let a = c .before .before .before .before .before .before .before .before .before .before .args in
-    let f = c .before .before .loop .inv (boundBy (a .capacity) (a .columns .now) (a .node) (a .carrier) (a .bar)) (c .before .before .before .before .before .before .before .before .before .before .pre .1 .1 .0) (c .before .before .before .before .mark-all .ensures .marked) in
-    let small = mark-small (a .width) (a .height) (boundBy (a .capacity) (a .columns .now) (a .node) (a .carrier) (a .bar)) (c .before .before .loop .t) (c .before .before .loop .v) in
-    omega (arith, c .before .before .before .before .mark-all .ensures .marked .marks (c .before .before .loop .t) (c .before .before .loop .v) (omega (arith, f .sum)) (f .inside))
-
 step-on-requires : tie.Need-step-on-requires Inv-loop μ-loop
 step-on-requires c κs =
     let a = c .before .before .before .before .before .before .before .before .before .before .args in
@@ -169,7 +161,6 @@ write-barred-spec =
     mul-step-on
     add-step-on
     array-read-step-on
-    cast-step-on
     step-on-requires
     add-t
     loop-less

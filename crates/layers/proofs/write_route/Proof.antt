@@ -80,11 +80,6 @@ shared-slice-read-if3 c =
     let place = bounds (a .width) (a .height) (a .h) (c .before .before .before .loop .t) (c .before .before .before .loop .v) (a .layers .now) (c .before .before .before .before .before .before .before .before .before .before .pre .0 .0) (omega (arith, f .sum)) (f .inside) in
     omega arith
 
-cast-if3 : tie.Need-cast-if3 Inv-loop μ-loop
-cast-if3 c =
-    let a = c .before .before .before .before .before .before .before .before .before .before .args in
-    omega (arith, c .shared-slice-known4 .given (c .before .before .before .loop .t * (a .width * a .height) + c .before .before .before .loop .v))
-
 write-barred-requires : tie.Need-write-barred-requires Inv-loop μ-loop
 write-barred-requires c κs =
     let a = c .before .before .before .before .before .before .before .before .before .before .before .before .args in
@@ -179,7 +174,6 @@ write-route-spec =
     mul-if3
     add-if3
     shared-slice-read-if3
-    cast-if3
     write-barred-requires
     same-length
     returns-2
