@@ -6,7 +6,6 @@
 //! | [`yardstick`] | document 01's rules in Rust, for speed                   |
 //! | `proved`      | the proved planner behind its C functions (feature)      |
 //! | [`side`]      | what the benchmark asks of either                        |
-//! | [`random`]    | numbers from a seed                                      |
 //! | [`families`]  | the inputs                                               |
 //! | [`measure`]   | medians of interleaved rounds                            |
 //! | [`compare`]   | equal results on every input                             |
@@ -17,7 +16,6 @@ pub mod families;
 pub mod measure;
 #[cfg(feature = "proved-route")]
 pub mod proved;
-pub mod random;
 pub mod report;
 pub mod side;
 pub mod task;

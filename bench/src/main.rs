@@ -9,11 +9,11 @@ use bench::families::{
     PlanFamily, RouteFamily, SEED, deepest_chain, plan_families, route_families,
 };
 use bench::measure::median_passes;
-use bench::random::Random;
 use bench::report::{self, FACTS, Row, print_head, print_row};
 use bench::side::Side;
 use bench::task::Tables;
 use bench::yardstick::{BY_CELL, BY_LAYER};
+use second::random::Random;
 
 const ROUTE_ROUNDS: usize = 21;
 const PLAN_ROUNDS: usize = 5;

@@ -6,11 +6,11 @@
 use std::iter::repeat_with;
 
 use super::{CAPACITY, INPUTS};
-use crate::random::Random;
 use crate::side::Side;
 use crate::task::{COLUMNS, NO_ROUTE, RouteTask};
 use crate::yardstick::records::{Bar, write_record, write_root};
 use crate::yardstick::{BY_CELL, OPEN};
+use second::random::Random;
 
 pub struct RouteFamily {
     pub name: &'static str,

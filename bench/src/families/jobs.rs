@@ -3,10 +3,10 @@
 use std::iter::repeat_with;
 
 use super::{CAPACITY, INPUTS};
-use crate::random::Random;
 use crate::task::{PlanTask, Tables};
 use crate::yardstick::records::chain_of;
 use crate::yardstick::{BY_CELL, CLOSED, OPEN};
+use second::random::Random;
 
 pub struct PlanFamily {
     pub name: String,

@@ -7,8 +7,9 @@ use mathlib.Core.List.{List}
 use borrow.Author.Tests.{lt-ltb, le-ltb, eq-eqb, ne-eqb}
 use lib.Dec.{eqb}
 use lib.ListN.{length, getD}
+use Rattle.lists.specs.Lists.{refuseIf}
 use Rattle.book.specs.declared.BookVerdict.the-variants.{Good, NoContents, WrongKinds, WrongBodies, WrongLengths}
-use Rattle.book.specs.Book.{entryKind, entryOffset, bodyEnd, entryBody, noContents, wrongKinds, wrongBodies, wrongHall, wrongCarriers, wrongLimits, wrongLengths, refuseIf, bookVerdict}
+use Rattle.book.specs.Book.{entryKind, entryOffset, bodyEnd, entryBody, noContents, wrongKinds, wrongBodies, wrongHall, wrongCarriers, wrongLimits, wrongLengths, bookVerdict}
 
 module _ (book : List ℕ) where
   -- ---- 12, over the numbers that the callees gave

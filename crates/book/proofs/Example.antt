@@ -3,8 +3,9 @@
 use Prim.Native.Nat.{ℕ}
 use mathlib.Core.Path.{_≡_, refl}
 use mathlib.Core.List.{List, [], _∷_}
+use Rattle.lists.specs.Lists.{refuseIf}
 use Rattle.book.specs.declared.BookVerdict.the-variants.{Good}
-use Rattle.book.specs.Book.{lowHigh, entryKind, entryOffset, entryLength, entryBody, noContents, wrongKinds, wrongBodies, wrongLengths, refuseIf, bookVerdict, noKind, ifGood, askedVerdict, bodyOf}
+use Rattle.book.specs.Book.{lowHigh, entryKind, entryOffset, entryLength, entryBody, noContents, wrongKinds, wrongBodies, wrongLengths, bookVerdict, noKind, ifGood, askedVerdict, bodyOf}
 use Rattle.book.specs.Parts.{widthIn, heightIn, hallIn, countIn, startIn, goalIn, delayIn, horizonIn}
 
 -- nine open cells

@@ -10,10 +10,11 @@ use denote.Enum.Declared.{tagOf}
 use types.Run.{OneOf, miss}
 use lib.Dec.{ltb, eqb}
 use lib.ListN.{length, getD}
+use Rattle.lists.specs.Lists.{refuseIf}
 use Rattle.lists.proofs.Tests.{or-fails}
 use Rattle.book.specs.declared.BookVerdict.{BookVerdict}
 use Rattle.book.specs.declared.BookVerdict.the-variants.{Good, NoContents, WrongKinds, WrongBodies, WrongLengths, NoKind}
-use Rattle.book.specs.Book.{noContents, wrongKinds, wrongBodies, wrongLengths, refuseIf, bookVerdict, noKind, ifGood, askedVerdict, entryBody, bodyOf}
+use Rattle.book.specs.Book.{noContents, wrongKinds, wrongBodies, wrongLengths, bookVerdict, noKind, ifGood, askedVerdict, entryBody, bodyOf}
 use Rattle.book.proofs.BookVerdict.{the-type}
 
 -- an answer that the code's `if let` passes by

@@ -2,10 +2,11 @@
 -- The bytes of a book are a list of numbers; a byte past its end reads as 0, and every answer above 11 is only reached
 -- where the whole contents are there.
 use Prim.Native.Nat.{ℕ, _+_, _-_, _*_, _%_}
-use mathlib.Core.Bool.{Bool, true, false, not, _||_}
+use mathlib.Core.Bool.{Bool, not, _||_}
 use mathlib.Core.List.{List, []}
 use lib.Dec.{eqb, ltb}
 use lib.ListN.{length, getD, take, drop}
+use Rattle.lists.specs.Lists.{refuseIf}
 use Rattle.book.specs.declared.BookVerdict.{BookVerdict}
 use Rattle.book.specs.declared.BookVerdict.the-variants.{Good, NoContents, WrongKinds, WrongBodies, WrongLengths, NoKind}
 
@@ -95,10 +96,6 @@ wrongLimits body = not (eqb (length body) 2)
 
 unfoldable pub wrongLengths : List ℕ → Bool
 wrongLengths book = wrongHall (entryBody book 1) || wrongCarriers (entryBody book 2) || wrongLimits (entryBody book 3)
-
-unfoldable pub refuseIf : Bool → BookVerdict → BookVerdict → BookVerdict
-refuseIf true v rest = v
-refuseIf false v rest = rest
 
 -- 'Reader answers, lowest first': 11 to 14
 unfoldable pub bookVerdict : List ℕ → BookVerdict

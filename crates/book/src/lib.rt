@@ -4,7 +4,8 @@ ghost use mathlib.Core.Path.{_≡_};
 ghost use mathlib.Core.Bool.{false};
 ghost use Prim.Native.Nat.{_+_, _<_, _≤_};
 ghost use lib.ListN.{length};
-ghost use Rattle.book.specs.Book.{bookNumber, entryAt, lowHigh, entryKind, entryOffset, entryLength, bodyEnd, wrongKinds, wrongBodies, wrongHall, wrongCarriers, wrongLimits, wrongLengths, refuseIf, noKind, bookVerdict, askedVerdict, bodyOf};
+ghost use Rattle.lists.specs.Lists.{refuseIf};
+ghost use Rattle.book.specs.Book.{bookNumber, entryAt, lowHigh, entryKind, entryOffset, entryLength, bodyEnd, wrongKinds, wrongBodies, wrongHall, wrongCarriers, wrongLimits, wrongLengths, noKind, bookVerdict, askedVerdict, bodyOf};
 
 // What the reader says, the lowest number first.
 pub enum BookVerdict {

@@ -4,12 +4,12 @@ use Prim.Native.Nat.{ℕ}
 use native.Mathlib.Omega.{arith}
 use mathlib.Core.Path.{_≡_, refl, sym, ap, _∙_}
 use mathlib.Core.List.{List, [], _∷_}
-use Rattle.lists.specs.Lists.{range, only, keep, anyOf, firstOf, each}
+use Rattle.lists.specs.Lists.{range, only, keep, anyOf, firstOf, each, refuseIf}
 use Rattle.hall.specs.Hall.{wrongSide, wrongGrid, wrongByte, wrongBytes, isOpen}
 use Rattle.hall.specs.Moves.{onGrid, cellAt, landing, reachFrom, reach, mayFollow}
 use Rattle.job.specs.Job.{Job, wrongLimits, wrongCount, wrongEnds, firstWrong, share, pairs, firstShared}
 use Rattle.job.specs.Team.{jobOf}
-use Rattle.job.specs.Verdict.{refuseIf, endsVerdict, sharedVerdict, judgeWith, judge, ifAccepted}
+use Rattle.job.specs.Verdict.{endsVerdict, sharedVerdict, judgeWith, judge, ifAccepted}
 use Rattle.routes.specs.Check.{wrongMove, wrongArrival, wrongAt, places, firstWrongPlace, placeVerdict, planVerdict, routeVerdict, routeTold}
 use Rattle.routes.specs.declared.RouteVerdict.{RouteVerdict}
 use Rattle.routes.specs.declared.RouteVerdict.the-variants.{Lawful, Wrong}

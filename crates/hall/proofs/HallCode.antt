@@ -2,6 +2,7 @@
 -- gives where its tests came out so. Assumes nothing.
 use Prim.Native.Nat.{ℕ, _+_, _-_, _*_, _/_, _%_, _≤_, _<_}
 use native.Mathlib.Nat.{mul-le-mul}
+use native.Mathlib.Omega.{arith}
 use mathlib.Core.Path.{_≡_, refl, sym, ap, _∙_}
 use mathlib.Core.Bool.{Bool, true, false, not, _&&_}
 use lib.Dec.{eqb, ltb, leb, ltb→lt, leb→le}
@@ -9,7 +10,7 @@ use lib.ListN.{length, getD, List·getD-eq-default}
 use borrow.Author.Tests.{lt-ltb, le-ltb, eq-eqb, ne-eqb}
 use Rattle.lists.specs.Lists.{only, anyOf}
 use Rattle.lists.proofs.Passing.{any-kept}
-use Rattle.lists.proofs.Tests.{of-true, and-both}
+use Rattle.lists.proofs.Tests.{of-true, and-both, and-false}
 use Rattle.hall.specs.Hall.{Hall, size, wrongByte, wrongBytes, isOpen}
 use Rattle.hall.specs.Moves.{rowAfter, colAfter, onGrid, cellAt, landing, reachFrom, reach, mayFollow}
 use Rattle.hall.specs.Landing.{landed}
@@ -18,6 +19,10 @@ use Rattle.hall.specs.declared.Landing.the-variants.{Off, Cell}
 
 pub area-small : {w h : ℕ} → w ≤ 16 → h ≤ 16 → w * h ≤ 256
 area-small a b = mul-le-mul a b
+
+-- a byte for each of 64 steps and each cell
+pub layers-small : {h size : ℕ} → h ≤ 63 → size ≤ 256 → (h + 1) * size ≤ 16384
+layers-small {h} a b = let n : h + 1 ≤ 64 = omega arith in mul-le-mul n b
 
 -- ---- the bytes
 
@@ -35,13 +40,9 @@ pub closed-past : (hall : Hall) (v : ℕ) → size hall ≤ v → false ≡ isOp
 unfolding isOpen
 closed-past hall v l = simp (le-ltb v (size hall) l)
 
-and-fails : (b : Bool) → false ≡ (b && false)
-and-fails true = refl
-and-fails false = refl
-
 pub closed-short : (hall : Hall) (v : ℕ) → length (hall .bytes) ≤ v → false ≡ isOpen hall v
 unfolding isOpen
-closed-short hall v l = simp (List·getD-eq-default (hall .bytes) 0 l) (and-fails (ltb v (size hall)))
+closed-short hall v l = simp (List·getD-eq-default (hall .bytes) 0 l) (sym (and-false (ltb v (size hall))))
 
 pub open-read : (hall : Hall) (v : ℕ) → v < size hall → eqb (getD (hall .bytes) v 0) 46 ≡ isOpen hall v
 unfolding isOpen

@@ -10,14 +10,14 @@ use mathlib.Core.Option.{Option, none, some}
 use lib.Dec.{T, eqb, ltb}
 use lib.ListN.{length}
 use borrow.Author.Tests.{eq-eqb, eqb-false, ltb-false}
-use Rattle.lists.specs.Lists.{range}
+use Rattle.lists.specs.Lists.{range, refuseIf}
 use Rattle.lists.proofs.Tests.{of-true, passes, or-left, or-right, or-fails}
 use Rattle.lists.proofs.Members.{member-range, member-map, member-each}
 use Rattle.lists.proofs.Passing.{first-none}
 use Rattle.hall.specs.Hall.{isOpen, wrongGrid, wrongBytes}
 use Rattle.hall.proofs.RightHall.{grid-right, bytes-right}
 use Rattle.job.specs.Job.{Job, Pair, wrongLimits, wrongCount, wrongEnds, firstWrong, share, pairs, firstShared}
-use Rattle.job.specs.Verdict.{refuseIf, endsVerdict, sharedVerdict, judgeWith}
+use Rattle.job.specs.Verdict.{endsVerdict, sharedVerdict, judgeWith}
 use Rattle.job.specs.declared.Verdict.{Verdict}
 use Rattle.job.specs.declared.Verdict.the-variants.{Accepted, WrongGrid, WrongBytes, WrongLimits, WrongCount}
 

@@ -7,11 +7,11 @@ use mathlib.Core.Path.{_≡_, refl, sym, ap, _∙_}
 use mathlib.Core.Bool.{Bool, true, false}
 use mathlib.Core.List.{List, map}
 use mathlib.Core.Option.{Option, none}
-use Rattle.lists.specs.Lists.{range, each, firstOf}
+use Rattle.lists.specs.Lists.{range, each, firstOf, refuseIf}
 use Rattle.hall.specs.Hall.{wrongGrid, wrongBytes}
 use Rattle.job.specs.Job.{Job, Pair, wrongLimits, wrongCount, wrongEnds, firstWrong, share, pairs, firstShared}
 use Rattle.job.specs.Team.{jobOf}
-use Rattle.job.specs.Verdict.{refuseIf, endsVerdict, sharedVerdict, judgeWith}
+use Rattle.job.specs.Verdict.{endsVerdict, sharedVerdict, judgeWith}
 use Rattle.job.specs.Found.{carriersOf, pairsFrom, endFound, pairFound}
 use Rattle.job.specs.declared.Team.{Team}
 use Rattle.job.specs.declared.Ends.{Ends}

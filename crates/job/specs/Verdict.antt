@@ -1,8 +1,9 @@
 -- Document 01, 'Numbers given back', 1 to 6: 'If several apply, the lowest number is given.'
 use Prim.Native.Nat.{ℕ}
-use mathlib.Core.Bool.{Bool, true, false, _||_}
+use mathlib.Core.Bool.{Bool, false, _||_}
 use mathlib.Core.Option.{Option, none, some}
 use mathlib.Core.Path.{_≡_}
+use Rattle.lists.specs.Lists.{refuseIf}
 use Rattle.hall.specs.Hall.{wrongGrid, wrongBytes}
 use Rattle.job.specs.Job.{Job, Pair, wrongLimits, wrongCount, firstWrong, firstShared}
 use Rattle.job.specs.Told.{bare, named}
@@ -19,10 +20,6 @@ verdictTold WrongLimits = bare 3
 verdictTold WrongCount = bare 4
 verdictTold (WrongEnds i) = named 5 i 0
 verdictTold (SharedEnds i j) = named 6 i j
-
-unfoldable pub refuseIf : Bool → Verdict → Verdict → Verdict
-refuseIf true v rest = v
-refuseIf false v rest = rest
 
 unfoldable pub endsVerdict : Option ℕ → Verdict → Verdict
 endsVerdict none rest = rest

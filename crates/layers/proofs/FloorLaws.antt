@@ -1,6 +1,6 @@
 -- What no bar changes, laid out once a route: the digits of the moves that leave the grid, added up move by move, and 255 where a cell is
 -- closed. Assumes nothing.
-use Prim.Native.Nat.{ℕ, zero, suc, _+_, _*_, _/_, _%_, _^_, _≤_, _<_}
+use Prim.Native.Nat.{ℕ, _+_, _/_, _%_, _^_, _≤_, _<_}
 use native.Mathlib.Omega.{arith}
 use native.Mathlib.Numerals.{add-one}
 use native.Mathlib.Decide.{ℕ-discrete}
@@ -16,6 +16,7 @@ use Rattle.hall.specs.Landing.{landed}
 use Rattle.hall.specs.declared.Landing.{Landing}
 use Rattle.hall.specs.declared.Landing.the-variants.{Off, Cell}
 use Rattle.marks.specs.Marks.{digit}
+use Rattle.marks.proofs.FiveDigits.{digits-small}
 use Rattle.layers.specs.Fill.{leaves, edgeMark, floorMark, Floored}
 
 -- ---- the floor
@@ -41,43 +42,24 @@ module _ (width height row col m : ℕ) where
   edge-on w l e q =
       rw (leaves-not (onGrid width height (rowAfter row m) (colAfter col m)) (cellAt width (rowAfter row m) (colAfter col m)) w (sym q ∙ ap landed e))
 
-digit-small : (b : Bool) (m : ℕ) → m < moveCount → digit b m ≤ 16
-unfolding digit
-digit-small true zero h = omega arith
-digit-small true (suc zero) h = omega arith
-digit-small true (suc (suc zero)) h = omega arith
-digit-small true (suc (suc (suc zero))) h = omega arith
-digit-small true (suc (suc (suc (suc zero)))) h = omega arith
-digit-small true (suc (suc (suc (suc (suc m))))) h = absurd (omega arith)
-digit-small false m h = omega arith
-
-pub digits-small : (f : ℕ → Bool) (m : ℕ) → m ≤ moveCount → sumTo m (λ k. digit (f k) k) ≤ 16 * m
-unfolding sumTo
-digits-small f zero h = omega arith
-digits-small f (suc m) h = omega (arith, digits-small f m (omega arith), digit-small (f m) m (omega arith))
-
 -- the digits of the first m moves
 pub record Edged (width height row col mark m : ℕ) : Type 0 where
   pub within : m ≤ moveCount
   pub digits : mark ≡ sumTo m (λ k. digit (leaves width height row col k) k)
-  pub small : mark ≤ 16 * m
 
 module _ (width height row col : ℕ) where
   pub edge-begins : Edged width height row col 0 0
   unfolding sumTo
-  edge-begins = record { within = omega arith; digits = refl; small = omega arith }
+  edge-begins = record { within = omega arith; digits = refl }
 
   pub edge-more : (mark m d : ℕ) → Edged width height row col mark m → m < moveCount → d ≡ digit (leaves width height row col m) m → Edged width height row col (mark + d) (m + 1)
   unfolding sumTo
-  edge-more mark m d w l e =
-      record {
-        within = omega arith;
-        digits = rw (add-one, e, w .digits);
-        small = omega (arith, w .small, digit-small (leaves width height row col m) m l);
-      }
+  edge-more mark m d w l e = record { within = omega arith; digits = rw (add-one, e, w .digits) }
 
   pub edge-fits : (mark m d : ℕ) → Edged width height row col mark m → m < moveCount → d ≡ digit (leaves width height row col m) m → mark + d ≤ 255
-  edge-fits mark m d w l e = omega (arith, w .small, digit-small (leaves width height row col m) m l)
+  edge-fits mark m d w l e =
+      let more = edge-more mark m d w l e in
+      omega (arith, more .digits, digits-small (leaves width height row col) (m + 1) (more .within))
 
   pub edge-ends : (mark m : ℕ) → Edged width height row col mark m → moveCount ≤ m → mark ≡ edgeMark width height row col
   unfolding edgeMark

@@ -10,7 +10,8 @@ use mathlib.Core.Option.{Option, none, some, Option·some-ne-none}
 use lib.Dec.{leb, eqb}
 use lib.ListN.{getD}
 use borrow.Author.Tests.{leb-true, leb-false, eq-eqb, ne-eqb}
-use Rattle.lists.specs.Lists.{only, keep, anyOf}
+use Rattle.lists.specs.Lists.{keep, anyOf}
+use Rattle.lists.proofs.Ranges.{keep-first, keep-later}
 use Rattle.hall.specs.Hall.{Hall, isOpen}
 use Rattle.routes.specs.Route.{stepCost, cost}
 use Rattle.routes.proofs.Cost.{step-most}
@@ -139,14 +140,6 @@ module _ (hall : Hall) (bars : List Bar) (goal : ℕ) where
 
 -- ---- the best way goes on by the first cell of least level
 
-pub first-kept : (p : ℕ → Bool) (x : ℕ) (xs : List ℕ) (d : ℕ) → p x ≡ true → getD (keep p (x ∷ xs)) 0 d ≡ x
-unfolding keep only
-first-kept p x xs d e = rw (e, keep, only)
-
-pub first-passed : (p : ℕ → Bool) (x : ℕ) (xs : List ℕ) → p x ≡ false → keep p (x ∷ xs) ≡ keep p xs
-unfolding keep only
-first-passed p x xs e = rw (e, keep, only)
-
 module _ (goal : ℕ) (f : ℕ → Option (List ℕ)) (short : (w : ℕ) → Short goal 126 (f w)) (d : ℕ) where
   -- the first of these cells whose level is that of s
   abbrev pub firstAt : List ℕ → List ℕ → ℕ
@@ -159,12 +152,12 @@ module _ (goal : ℕ) (f : ℕ → Option (List ℕ)) (short : (w : ℕ) → Sho
   onward-here : (w : ℕ) (ws s : List ℕ) → f w ≡ some s → Onward s (w ∷ ws)
   unfolding levelOf
   onward-here w ws s e =
-      let k : firstAt s (w ∷ ws) ≡ w = first-kept (λ w. eqb (levelOf goal (f w)) (cost goal s)) w ws d (eq-eqb (levelOf goal (f w)) (cost goal s) (ap (levelOf goal) e)) in
+      let k : firstAt s (w ∷ ws) ≡ w = keep-first (λ w. eqb (levelOf goal (f w)) (cost goal s)) w ws d (eq-eqb (levelOf goal (f w)) (cost goal s) (ap (levelOf goal) e)) in
       record { best = ap f k ∙ e; among = List·Memᴰ·head k }
 
   onward-later : (w : ℕ) (ws s : List ℕ) → (levelOf goal (f w) ≡ cost goal s → ⊥) → Onward s ws → Onward s (w ∷ ws)
   onward-later w ws s n o =
-      let k : firstAt s (w ∷ ws) ≡ firstAt s ws = ap (λ xs. getD xs 0 d) (first-passed (λ w. eqb (levelOf goal (f w)) (cost goal s)) w ws (ne-eqb (levelOf goal (f w)) (cost goal s) n)) in
+      let k : firstAt s (w ∷ ws) ≡ firstAt s ws = ap (λ xs. getD xs 0 d) (keep-later (λ w. eqb (levelOf goal (f w)) (cost goal s)) w ws (ne-eqb (levelOf goal (f w)) (cost goal s) n)) in
       record { best = ap f k ∙ o .best; among = List·Memᴰ·tail (subst (λ x. List·Memᴰ x ws) (sym k) (o .among)) }
 
   -- where the first way of a list is as good as the best of the others it is the best, and otherwise its level is another

@@ -1,6 +1,8 @@
 pub mod CellLaws
+pub mod CellPlaces
 pub mod Filled
 pub mod FloorLaws
+pub mod LeastLaws
 pub mod Levels
 pub mod MadeLaws
 pub mod NearLaws
@@ -10,4 +12,5 @@ pub mod Settled
 pub mod SpanLaws
 pub mod StepLaws
 pub mod Turns
+pub mod WayLaws
 pub mod WriteLaws

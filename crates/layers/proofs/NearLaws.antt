@@ -13,7 +13,8 @@ use borrow.Author.Tests.{eq-eqb, ne-eqb}
 use Rattle.hall.specs.Moves.{rowChanges, colChanges, moveCount}
 use Rattle.layers.specs.Layers.{crossingStarts}
 use Rattle.layers.specs.Fill.{halves, odd, afterStep, leastTo, nearEntry, orNone, nearLevel, nearByte}
-use Rattle.layers.proofs.CellLaws.{leastTo-most, step-arrives, step-more, step-small, crossing-small}
+use Rattle.layers.proofs.LeastLaws.{leastTo-most}
+use Rattle.layers.proofs.CellLaws.{step-arrives, step-more, step-small, crossing-small}
 
 -- ---- one move
 

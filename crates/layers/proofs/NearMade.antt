@@ -13,11 +13,11 @@ use Rattle.lists.specs.Lists.{only}
 use Rattle.lists.proofs.Tests.{of-true, and-both}
 use Rattle.hall.specs.Hall.{isOpen}
 use Rattle.hall.specs.Moves.{rowChanges, colChanges, rowAfter, colAfter, onGrid, cellAt, landing, moveCount}
+use Rattle.marks.proofs.FiveDigits.{digits-small}
 use Rattle.layers.specs.Layers.{crossingStarts}
 use Rattle.layers.specs.Fill.{lentHall, levelIn, leastOf, halves, odd, unless, turnsBy, afterStep, mayBegin, madeLevel, madeByte, leaves, edgeMark, floorMark, leastTo, nearEntry, orNone, nearLevel, nearByte}
 use Rattle.layers.proofs.Turns.{digit-read}
-use Rattle.layers.proofs.CellLaws.{spared, least-all}
-use Rattle.layers.proofs.FloorLaws.{digits-small}
+use Rattle.layers.proofs.LeastLaws.{spared, least-all}
 
 -- ---- the byte so made is the definition's
 

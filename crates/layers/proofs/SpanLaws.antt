@@ -13,8 +13,9 @@ use Rattle.hall.specs.Hall.{Hall, size}
 use Rattle.layers.specs.Layers.{crossingStarts}
 use Rattle.layers.specs.Fill.{lentHall, levelIn, leastOf, turnsBy, afterStep, mayBegin, madeLevel, madeByte, Floored, nearByte, restedByte, spanStart, Made, FilledFrom}
 use Rattle.layers.proofs.Filled.{read-level}
-use Rattle.layers.proofs.MadeLaws.{made-none, made-up, byte-same, rows-more, one-more, rows-inside}
-use Rattle.layers.proofs.CellLaws.{least-most, step-none, step-stays, step-arrives, step-more}
+use Rattle.layers.proofs.MadeLaws.{made-up, byte-same, rows-more, one-more, rows-inside}
+use Rattle.layers.proofs.LeastLaws.{least-most}
+use Rattle.layers.proofs.CellLaws.{step-none, step-stays, step-arrives, step-more}
 use Rattle.layers.proofs.NearMade.{near-is-made}
 
 -- ---- a span
@@ -59,10 +60,6 @@ start-before width size end wide some h = go (decLe size end) (decLt width end)
     go (no n) (no k) = omega (arith, start-first width size end n k)
 
 module _ (width height : ℕ) (bytes : List ℕ) (base : ℕ) (a : List ℕ) where
-  -- nothing is filled yet
-  pub bottom-none : base + width * height + width * height + width ≤ length a → FilledFrom (lentHall width height bytes) base a (width * height) a
-  bottom-none room = record { within = omega arith; room = room; made = made-none base (width * height) (width * height) (madeByte (lentHall width height bytes) (width * height) a (base + width * height)) a (omega arith) }
-
   -- the last row is, by its cells
   pub bottom-row : (b : List ℕ) → 1 ≤ height → base + width * height + width * height ≤ length a → Made base ((height - 1) * width) ((height - 1) * width + width) (madeByte (lentHall width height bytes) (width * height) a (base + width * height)) a b → FilledFrom (lentHall width height bytes) base a (width * height - width) b
   bottom-row b some room m =

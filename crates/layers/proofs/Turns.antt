@@ -1,65 +1,41 @@
 -- A mark tells where a carrier may stand and turn: 255 is a barred cell, and otherwise the binary digits are the barred moves. So the
 -- moves whose digits are not set lead to the very cells of `mayTurn`.
 -- Assumes nothing.
-use Prim.Native.Nat.{ℕ, zero, suc, _+_, _*_, _/_, _%_, _^_, _≤_, _<_}
+use Prim.Native.Nat.{ℕ, zero, suc, _+_, _/_, _%_, _^_, _<_}
+use native.Mathlib.Nat.{div-one}
+use native.Mathlib.Numerals.{add-one}
 use native.Mathlib.Omega.{arith}
-use mathlib.Core.Path.{_≡_, refl}
+use mathlib.Core.Path.{_≡_, refl, sym, ap, _∙_}
 use mathlib.Core.Bool.{Bool, true, false, not}
 use mathlib.Core.List.{List, [], _∷_, _++_}
 use lib.Dec.{eqb}
+use lib.Pow.{shr-shr}
 use borrow.Author.Tests.{ne-eqb}
-use Rattle.lists.specs.Lists.{range, sumTo, only, keep, anyOf}
+use Rattle.lists.specs.Lists.{range, only, keep, anyOf}
 use Rattle.lists.proofs.Ranges.{keep-each, each-same}
 use Rattle.hall.specs.Hall.{Hall}
 use Rattle.hall.specs.Moves.{onGrid, cellAt, rowAfter, colAfter, landing, reachFrom, reach, moveCount}
 use Rattle.routes.specs.Bars.{barsCell, barsWay, mayStand, mayTurn}
 use Rattle.routes.specs.declared.Bar.{Bar}
-use Rattle.marks.specs.Marks.{barsMove, digit, markOf}
+use Rattle.marks.specs.Marks.{barsMove, markOf}
+use Rattle.marks.proofs.FiveDigits.{bit, digitsTo, digits-small, digit-is}
 use Rattle.layers.specs.Fill.{halves, odd, unless, turnsBy, mayBegin}
 
 -- ---- the digits of a mark
 
-one : Bool → ℕ
-one true = 1
-one false = 0
+bit-test : (b : Bool) → eqb (bit b) 1 ≡ b
+unfolding bit
+bit-test true = refl
+bit-test false = refl
 
-one-small : (b : Bool) → one b ≤ 1
-unfolding one
-one-small true = omega arith
-one-small false = omega arith
+halves-power : (m mark : ℕ) → halves m mark ≡ mark / 2 ^ m
+unfolding halves
+halves-power zero mark = sym (div-one mark)
+halves-power (suc m) mark = ap (λ x. x / 2) (halves-power m mark) ∙ shr-shr mark m 1 ∙ ap (λ k. mark / 2 ^ k) (add-one m)
 
-one-test : (b : Bool) → eqb (one b) 1 ≡ b
-unfolding one
-one-test true = refl
-one-test false = refl
-
-digit-one : (b : Bool) (m : ℕ) → digit b m ≡ one b * 2 ^ m
-unfolding one digit
-digit-one true m = omega arith
-digit-one false m = omega arith
-
--- the sum of the digits of five tests
-abbrev marked : (ℕ → Bool) → ℕ
-marked b = sumTo moveCount (λ m. digit (b m) m)
-
-marked-sum : (b : ℕ → Bool) → marked b ≡ one (b 0) + 2 * one (b 1) + 4 * one (b 2) + 8 * one (b 3) + 16 * one (b 4)
-unfolding sumTo
-marked-sum b = omega (arith, digit-one (b 0) 0, digit-one (b 1) 1, digit-one (b 2) 2, digit-one (b 3) 3, digit-one (b 4) 4)
-
-small-digits : (b : ℕ → Bool) → (one (b 0) ≤ 1) × (one (b 1) ≤ 1) × (one (b 2) ≤ 1) × (one (b 3) ≤ 1) × (one (b 4) ≤ 1)
-small-digits b = (one-small (b 0), one-small (b 1), one-small (b 2), one-small (b 3), one-small (b 4))
-
-marked-small : (b : ℕ → Bool) → marked b ≤ 31
-marked-small b = let s = small-digits b in omega (arith, marked-sum b)
-
-pub digit-read : (b : ℕ → Bool) (m : ℕ) → m < moveCount → odd (halves m (marked b)) ≡ b m
-unfolding odd halves
-digit-read b zero h = let s = small-digits b in let e : marked b % 2 ≡ one (b 0) = omega (arith, marked-sum b) in rw e (one-test (b 0))
-digit-read b (suc zero) h = let s = small-digits b in let e : marked b / 2 % 2 ≡ one (b 1) = omega (arith, marked-sum b) in rw e (one-test (b 1))
-digit-read b (suc (suc zero)) h = let s = small-digits b in let e : marked b / 2 / 2 % 2 ≡ one (b 2) = omega (arith, marked-sum b) in rw e (one-test (b 2))
-digit-read b (suc (suc (suc zero))) h = let s = small-digits b in let e : marked b / 2 / 2 / 2 % 2 ≡ one (b 3) = omega (arith, marked-sum b) in rw e (one-test (b 3))
-digit-read b (suc (suc (suc (suc zero)))) h = let s = small-digits b in let e : marked b / 2 / 2 / 2 / 2 % 2 ≡ one (b 4) = omega (arith, marked-sum b) in rw e (one-test (b 4))
-digit-read b (suc (suc (suc (suc (suc m))))) h = absurd (omega arith)
+pub digit-read : (b : ℕ → Bool) (m : ℕ) → m < moveCount → odd (halves m (digitsTo b moveCount)) ≡ b m
+unfolding odd
+digit-read b m h = rw (halves-power m (digitsTo b moveCount), digit-is b m h) (bit-test (b m))
 
 -- ---- where a carrier may stand
 
@@ -67,9 +43,9 @@ pub mark-bars : (width height : ℕ) (bars : List Bar) (t v : ℕ) → eqb (mark
 unfolding markOf
 mark-bars width height bars t v = go (anyOf (barsCell t v) bars)
   where
-    go : (b : Bool) → eqb (elim b [ true ↦ 255 | false ↦ marked (barsMove width height bars t v) ]) 255 ≡ b
+    go : (b : Bool) → eqb (elim b [ true ↦ 255 | false ↦ digitsTo (barsMove width height bars t v) moveCount ]) 255 ≡ b
     go true = refl
-    go false = ne-eqb (marked (barsMove width height bars t v)) 255 (λ e. let l = marked-small (barsMove width height bars t v) in absurd (omega arith))
+    go false = ne-eqb (digitsTo (barsMove width height bars t v) moveCount) 255 (λ e. let l = digits-small (barsMove width height bars t v) moveCount (omega arith) in absurd (omega arith))
 
 pub mark-begins : (hall : Hall) (bars : List Bar) (t v : ℕ) → mayBegin hall v (markOf (hall .width) (hall .height) bars t v) ≡ mayStand hall bars t v
 unfolding mayBegin mayStand
@@ -87,7 +63,7 @@ unless-barred q true x = go (q x)
 unless-barred q false x = refl
 
 module _ (hall : Hall) (bars : List Bar) (t v : ℕ) where
-  mark-moves : anyOf (barsCell t v) bars ≡ false → markOf (hall .width) (hall .height) bars t v ≡ marked (barsMove (hall .width) (hall .height) bars t v)
+  mark-moves : anyOf (barsCell t v) bars ≡ false → markOf (hall .width) (hall .height) bars t v ≡ digitsTo (barsMove (hall .width) (hall .height) bars t v) moveCount
   unfolding markOf
   mark-moves e = rw (e, markOf)
 
@@ -97,7 +73,7 @@ module _ (hall : Hall) (bars : List Bar) (t v : ℕ) where
   mark-turns e =
       rw (mark-moves e, keep-each (λ w. not (anyOf (barsWay t v w) bars)) (landing (hall .width) (hall .height) (v / hall .width) (v % hall .width)) (range 0 moveCount))
       (each-same
-      (λ m. unless (odd (halves m (marked (barsMove (hall .width) (hall .height) bars t v)))) (landing (hall .width) (hall .height) (v / hall .width) (v % hall .width) m))
+      (λ m. unless (odd (halves m (digitsTo (barsMove (hall .width) (hall .height) bars t v) moveCount))) (landing (hall .width) (hall .height) (v / hall .width) (v % hall .width) m))
       (λ m. keep (λ w. not (anyOf (barsWay t v w) bars)) (landing (hall .width) (hall .height) (v / hall .width) (v % hall .width) m))
       0 moveCount
       (λ m _ h.

@@ -1,14 +1,16 @@
 -- Lists in an order: each entry stands so to all that come after it. Of a list in order the first that passes comes before all
 -- others that do. By induction on the list. Assumes nothing.
 use Prim.Native.Nat.{ℕ, zero, suc, _+_, _≤_, _<_}
+use native.Mathlib.Decide.{ℕ-discrete}
 use native.Mathlib.Omega.{arith}
-use mathlib.Core.Path.{_≡_, refl, subst}
+use mathlib.Core.Path.{_≡_, refl, sym, subst}
 use mathlib.Core.Bool.{Bool, true, false}
-use mathlib.Core.List.{List, [], _∷_, _++_, map}
+use mathlib.Core.List.{List, [], _∷_, _++_, map, List·Memᴰ, List·Memᴰ·head, List·Memᴰ·tail, Memᴰ·append-right}
 use mathlib.Core.Option.{Option, none, some}
 use lib.Dec.{T}
 use Rattle.lists.specs.Lists.{range, only, keep, each, firstOf, Every}
-use Rattle.lists.proofs.Every.{every-imply, every-append, only-every, keep-every, every-map, every-each, every-exchange, every-range}
+use Rattle.lists.proofs.Members.{member-each, member-range}
+use Rattle.lists.proofs.Every.{every-imply, every-member, every-append, only-every, keep-every, every-map, every-each, every-exchange, every-range}
 
 unfoldable pub Ordered : {A : Type 0} → (A → A → Type 0) → List A → Type 0
 Ordered R [] = Unit {0}
@@ -82,3 +84,29 @@ module _ {A : Type 0} (p : A → Bool) (R : A → A → Type 0) where
         | true ↦ λ e. rw (e, firstOf) (λ _. self x, every-imply {P = R x} (λ y r _. r) xs (o .0))
         | false ↦ λ e. rw (e, firstOf) (least-later x xs (λ t. subst T e t) (firstOf p xs) (first-least self xs (o .1)))
       ]) refl
+
+-- ---- parts of a list in order stand one after the other
+
+module _ {A : Type 0} (R : A → A → Type 0) where
+  ordered-parts : {x y : A} (xs ys : List A) → Ordered R (xs ++ ys) → List·Memᴰ x xs → List·Memᴰ y ys → R x y
+  unfolding Ordered
+  ordered-parts [] ys o m n = elim m [ ]
+  ordered-parts {x} {y} (z ∷ xs) ys o (List·Memᴰ·head e) n = subst (λ a. R a y) (sym e) (every-member (R z) (xs ++ ys) (o .0) (Memᴰ·append-right xs n))
+  ordered-parts (z ∷ xs) ys o (List·Memᴰ·tail m) n = ordered-parts xs ys (o .1) m n
+
+  ordered-rest : (xs ys : List A) → Ordered R (xs ++ ys) → Ordered R ys
+  unfolding Ordered
+  ordered-rest [] ys o = o
+  ordered-rest (x ∷ xs) ys o = ordered-rest xs ys (o .1)
+
+pub each-rises : (f : ℕ → List ℕ) (a n : ℕ) → Rising (each f (range a n)) → (i j x y : ℕ) → a ≤ i → i < j → j < a + n → List·Memᴰ x (f i) → List·Memᴰ y (f j) → x < y
+unfolding Rising each range
+each-rises f a zero o i j x y h k l p q = absurd (omega arith)
+each-rises f a (suc n) o i j x y h k l p q =
+    elim (ℕ-discrete i a) [
+      | yes e ↦
+          ordered-parts (λ x y. x < y) (f a) (each f (range (suc a) n)) o (subst (λ b. List·Memᴰ x (f b)) e p)
+          (member-each f (range (suc a) n) (member-range (suc a) n (omega arith) (omega arith)) q)
+      | no ne ↦
+          each-rises f (suc a) n (ordered-rest (λ x y. x < y) (f a) (each f (range (suc a) n)) o) i j x y (omega (arith, ne)) k (omega arith) p q
+    ]

@@ -5,6 +5,7 @@ use native.Mathlib.Omega.{arith}
 use native.Mathlib.Nat.{suc-mul, mul-le-mul-right}
 use mathlib.Core.Path.{_≡_, refl, sym, ap, _∙_}
 use mathlib.Core.List.{List, [], _∷_, _++_, append-assoc}
+use lib.Arith.{digits-div, digits-mod}
 use lib.ListN.{length, getD, take, drop, length-append, length-take, length-drop}
 use lib.Seq.{paste, take-take, take-all, take-at, take-nil, drop-drop, drop-at, length-take-le}
 
@@ -23,6 +24,13 @@ part-within i n size l = omega (arith, suc-mul i size, mul-le-mul-right size l)
 
 pub part-next : (i n size : ℕ) → i < n → (i + 1) * size ≤ n * size
 part-next i n size l = let e : i + 1 ≡ suc i = omega arith in rw e (mul-le-mul-right size l)
+
+-- a place in a row of parts tells its part and its place there
+pub same-part : (size s t u v : ℕ) → u < size → v < size → s * size + u ≡ t * size + v → s ≡ t
+same-part size s t u v h k e = sym (digits-div s {m = size} {r = u} h) ∙ (rw e (digits-div t {m = size} {r = v} k))
+
+pub same-place : (size s t u v : ℕ) → u < size → v < size → s * size + u ≡ t * size + v → u ≡ v
+same-place size s t u v h k e = sym (digits-mod s {m = size} {r = u} h) ∙ (rw e (digits-mod t {m = size} {r = v} k))
 
 -- ---- parts of parts
 

@@ -7,7 +7,7 @@ use mathlib.Core.Bool.{Bool, true, false, not, _&&_, _||_}
 use mathlib.Core.List.{List, [], _∷_, _++_, List·Memᴰ, List·Memᴰ·head, List·Memᴰ·tail}
 use mathlib.Core.Option.{Option, none, some, Option·some-ne-none}
 use lib.Dec.{T, eqb, eqb→eq, T-not, not-T}
-use Rattle.lists.specs.Lists.{keep, anyOf, firstOf, Every}
+use Rattle.lists.specs.Lists.{only, keep, anyOf, firstOf, Every}
 use Rattle.lists.proofs.Tests.{and-both, both-and, same-test}
 use Rattle.lists.proofs.Members.{keep-member, member-keep}
 
@@ -21,6 +21,15 @@ module _ {A : Type 0} (p : A → Bool) where
   pub any-later : (x : A) (xs : List A) → p x ≡ false → anyOf p (x ∷ xs) ≡ anyOf p xs
   unfolding anyOf
   any-later x xs e = rw (e, anyOf)
+
+  pub any-only : (b : Bool) (x : A) → anyOf p (only b x) ≡ (b && p x)
+  unfolding anyOf only
+  any-only true x = elim (p x) as (λ (c : Bool). elim c [ true ↦ true | false ↦ false ] ≡ c) [ true ↦ refl | false ↦ refl ]
+  any-only false x = refl
+
+  pub any-cons : (x : A) (xs : List A) → anyOf p (x ∷ xs) ≡ (p x || anyOf p xs)
+  unfolding anyOf
+  any-cons x xs = elim (p x) as (λ (c : Bool). elim c [ true ↦ true | false ↦ anyOf p xs ] ≡ (c || anyOf p xs)) [ true ↦ refl | false ↦ refl ]
 
   pub any-append : (xs ys : List A) → anyOf p (xs ++ ys) ≡ (anyOf p xs || anyOf p ys)
   unfolding anyOf

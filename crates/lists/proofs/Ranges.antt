@@ -4,7 +4,7 @@ use Prim.Native.Nat.{ℕ, zero, suc, _+_, _-_, _≤_, _<_}
 use native.Mathlib.Numerals.{add-one}
 use native.Mathlib.Omega.{arith}
 use mathlib.Core.Path.{_≡_, refl, sym, ap, _∙_}
-use mathlib.Core.Bool.{Bool}
+use mathlib.Core.Bool.{Bool, true, false}
 use mathlib.Core.List.{List, [], _∷_, _++_, map, append-assoc, List·Memᴰ, List·Memᴰ·head, List·Memᴰ·tail}
 use lib.ListN.{length, getD}
 use Rattle.lists.specs.Lists.{range, only, keep, each}
@@ -71,6 +71,14 @@ module _ {B : Type 0} where
 -- ---- those that pass
 
 module _ {A : Type 0} (p : A → Bool) where
+  pub keep-first : (x : A) (xs : List A) (d : A) → p x ≡ true → getD (keep p (x ∷ xs)) 0 d ≡ x
+  unfolding keep only
+  keep-first x xs d e = rw (e, keep, only)
+
+  pub keep-later : (x : A) (xs : List A) → p x ≡ false → keep p (x ∷ xs) ≡ keep p xs
+  unfolding keep only
+  keep-later x xs e = rw (e, keep, only)
+
   pub keep-append : (xs ys : List A) → keep p (xs ++ ys) ≡ keep p xs ++ keep p ys
   unfolding keep
   keep-append [] ys = refl
@@ -80,3 +88,8 @@ module _ {A : Type 0} (p : A → Bool) where
   unfolding each keep
   keep-each f [] = refl
   keep-each f (x ∷ xs) = rw (keep-append (f x) (each f xs), keep-each f xs)
+
+  pub keep-same : (q : A → Bool) (xs : List A) → ((x : A) → List·Memᴰ x xs → p x ≡ q x) → keep p xs ≡ keep q xs
+  unfolding keep
+  keep-same q [] h = refl
+  keep-same q (x ∷ xs) h = rw (h x (List·Memᴰ·head refl), keep-same q xs (λ y m. h y (List·Memᴰ·tail m)))

@@ -3,7 +3,8 @@
 use Prim.Native.Nat.{ℕ, zero, suc, _+_, _*_, _≤_, _<_}
 use native.Mathlib.Nat.{suc-mul}
 use native.Mathlib.Omega.{arith}
-use mathlib.Core.Path.{_≡_, refl, subst}
+use native.Mathlib.Decide.{ℕ-discrete}
+use mathlib.Core.Path.{_≡_, refl, sym, subst}
 use mathlib.Core.Logic.{⊎-elim}
 use mathlib.Core.Bool.{Bool, true, false}
 use mathlib.Core.List.{List, [], _∷_, _++_, List·Memᴰ, List·Memᴰ·not-nil, List·Memᴰ·cases-cons}
@@ -34,6 +35,16 @@ sum-at-most (suc n) size f h =
     let a : sumTo n f ≤ n * size = sum-at-most n size f (λ i l. h i (omega arith)) in
     let b : f n ≤ size = h n (omega arith) in
     rw suc-mul (omega arith)
+
+-- where one term alone is another
+pub sum-changed : (n r : ℕ) (f g : ℕ → ℕ) → r < n → ((i : ℕ) → i < n → (i ≡ r → ⊥) → g i ≡ f i) → sumTo n g + f r ≡ sumTo n f + g r
+unfolding sumTo
+sum-changed zero r f g l h = absurd (omega arith)
+sum-changed (suc n) r f g l h =
+    elim (ℕ-discrete n r) [
+      | yes e ↦ let a = sum-same n g f (λ i k. h i (omega arith) (λ z. omega (arith, e, z))) in rw (sym e) (omega (arith, a))
+      | no m ↦ omega (arith, sum-changed n r f g (omega (arith, m)) (λ i k z. h i (omega arith) z), h n (omega arith) m)
+    ]
 
 -- the weights of all, added up
 module _ {A : Type 0} (weight : A → ℕ) where

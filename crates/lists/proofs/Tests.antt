@@ -1,10 +1,12 @@
 -- The tests of the definitions as facts: one law each way for each of `&&`, `||` and `not`, by cases on the tests. For `not` they
 -- are the kit's `T-not` and `not-T`. Assumes nothing.
 use Prim.Native.Nat.{ℕ}
-use mathlib.Core.Path.{_≡_, refl, sym, subst}
+use native.Mathlib.Decide.{ℕ-discrete}
+use mathlib.Core.Path.{_≡_, refl, sym, subst, _∙_}
 use mathlib.Core.Logic.{_⊎_, inl, inr}
 use mathlib.Core.Bool.{Bool, true, false, not, _&&_, _||_, true≢false}
 use lib.Dec.{T, eqb, eqb-refl}
+use borrow.Author.Tests.{eq-eqb, ne-eqb}
 
 pub is-true : {b : Bool} → T b → b ≡ true
 is-true {b = true} h = refl
@@ -19,6 +21,9 @@ of-true e = subst T (sym e) tt
 
 pub of-false : {b : Bool} → b ≡ false → T b → ⊥
 of-false e h = subst T e h
+
+pub not-both : {b : Bool} → b ≡ true → b ≡ false → ⊥
+not-both e f = true≢false (sym e ∙ f)
 
 -- a test passes or fails
 pub either : (b : Bool) → T b ⊎ (T b → ⊥)
@@ -63,3 +68,14 @@ same-test {a = true} {b = true} f g = refl
 same-test {a = true} {b = false} f g = absurd (f tt)
 same-test {a = false} {b = true} f g = absurd (g tt)
 same-test {a = false} {b = false} f g = refl
+
+pub and-false : (a : Bool) → (a && false) ≡ false
+and-false true = refl
+and-false false = refl
+
+pub and-or : (a b c : Bool) → (a && (b || c)) ≡ (a && b || a && c)
+and-or true b c = refl
+and-or false b c = refl
+
+pub eqb-turned : (a b : ℕ) → eqb a b ≡ eqb b a
+eqb-turned a b = elim (ℕ-discrete a b) [ yes e ↦ eq-eqb a b e ∙ sym (eq-eqb b a (sym e)) | no n ↦ ne-eqb a b n ∙ sym (ne-eqb b a (λ e. n (sym e))) ]

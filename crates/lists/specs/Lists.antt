@@ -1,4 +1,5 @@
--- The words on lists and counts in which document 01 is written down here: a range, the first that passes, a sum.
+-- The words on lists and counts in which document 01 is written down here: a range, the first that passes, a sum, and a check
+-- before others.
 -- Nothing here knows of halls or carriers.
 use Prim.Native.Nat.{ℕ, zero, suc, _+_}
 use mathlib.Core.Bool.{Bool, true, false}
@@ -45,6 +46,11 @@ module _ {A : Type 0} where
   unfoldable pub firstOf : (A → Bool) → List A → Option A
   firstOf p [] = none
   firstOf p (x ∷ xs) = elim (p x) [ true ↦ some x | false ↦ firstOf p xs ]
+
+-- a check that comes before the rest: 'If several apply, the lowest number is given.'
+unfoldable pub refuseIf : {A : Type 0} → Bool → A → A → A
+refuseIf true refusal rest = refusal
+refuseIf false refusal rest = rest
 
 -- what f makes of each, one after the other
 unfoldable pub each : {A B : Type 0} → (A → List B) → List A → List B

@@ -8,6 +8,7 @@ use mathlib.Core.Bool.{Bool, true, false}
 use mathlib.Core.List.{List, [], _∷_}
 use lib.ListN.{length, getD, set}
 use lib.Seq.{getD-set-same, getD-set-other}
+use Rattle.lists.proofs.Parts.{same-part, same-place}
 use Rattle.hall.specs.Moves.{moveCount}
 use Rattle.routes.specs.declared.Bar.{Bar}
 use Rattle.routes.specs.declared.Bar.the-variants.{Cross}
@@ -15,7 +16,7 @@ use Rattle.marks.specs.Marks.{markOf, Marked}
 use Rattle.marks.specs.Post.{Layered, MarkedMore, MoveTo, leads, withDigit}
 use Rattle.marks.proofs.Marking.{mark-crossed, mark-not-crossed, mark-far}
 use Rattle.marks.proofs.OneMove.{others-lead-not}
-use Rattle.marks.proofs.Places.{Bounds, bounds, same-step, same-cell, same-from, same-set}
+use Rattle.marks.proofs.Places.{Bounds, bounds, same-from, same-set}
 
 -- ---- looking for the move
 
@@ -74,7 +75,7 @@ module _ (width height h from to step : ℕ) where
       mark bars m t v p q =
           elim (ℕ-discrete (t * (width * height) + v) (step * (width * height) + from)) [
             | yes w ↦
-                rw (w, same-step (width * height) t step v from q i w, same-cell (width * height) t step v from q i w)
+                rw (w, same-part (width * height) t step v from q i w, same-place (width * height) t step v from q i w)
                 (getD-set-same xs (step * (width * height) + from) y 0 (b .inside)
                 ∙ e
                 ∙ ap (λ (x : ℕ). withDigit x r) (m .marks step from k i)

@@ -1,5 +1,6 @@
 pub mod Crossings
 pub mod Digits
+pub mod FiveDigits
 pub mod Marking
 pub mod More
 pub mod OneMove

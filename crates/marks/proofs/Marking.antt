@@ -5,10 +5,11 @@ use native.Mathlib.Decide.{ℕ-discrete}
 use mathlib.Core.Path.{_≡_, refl, sym, ap, _∙_}
 use mathlib.Core.Bool.{Bool, true, false, _&&_, _||_}
 use mathlib.Core.List.{List, [], _∷_}
-use borrow.Author.Tests.{eq-eqb, ne-eqb, le-leb}
+use borrow.Author.Tests.{eq-eqb, le-leb}
 use lib.Dec.{eqb, leb, eqb→eq, leb→le}
-use Rattle.lists.specs.Lists.{only, anyOf, sumTo}
-use Rattle.lists.proofs.Tests.{is-false, and-both}
+use Rattle.lists.specs.Lists.{anyOf, sumTo}
+use Rattle.lists.proofs.Passing.{any-only, any-cons}
+use Rattle.lists.proofs.Tests.{is-false, and-both, and-false, and-or, eqb-turned}
 use Rattle.hall.specs.Moves.{rowAfter, colAfter, onGrid, cellAt, landing, moveCount}
 use Rattle.routes.specs.Bars.{barsCell, barsWay}
 use Rattle.routes.specs.declared.Bar.{Bar}
@@ -18,26 +19,6 @@ use Rattle.marks.specs.Post.{leads, withDigit}
 use Rattle.marks.proofs.Digits.{markFrom, mark-set, mark-kept}
 
 -- ---- a landing or none
-
-any-only : {A : Type 0} (p : A → Bool) (b : Bool) (x : A) → anyOf p (only b x) ≡ (b && p x)
-unfolding anyOf only
-any-only p true x = elim (p x) as (λ (c : Bool). elim c [ true ↦ true | false ↦ false ] ≡ c) [ true ↦ refl | false ↦ refl ]
-any-only p false x = refl
-
-any-cons : {A : Type 0} (p : A → Bool) (x : A) (xs : List A) → anyOf p (x ∷ xs) ≡ (p x || anyOf p xs)
-unfolding anyOf
-any-cons p x xs = elim (p x) as (λ (c : Bool). elim c [ true ↦ true | false ↦ anyOf p xs ] ≡ (c || anyOf p xs)) [ true ↦ refl | false ↦ refl ]
-
-and-or : (a b c : Bool) → (a && (b || c)) ≡ (a && b || a && c)
-and-or true b c = refl
-and-or false b c = refl
-
-and-false : (a : Bool) → (a && false) ≡ false
-and-false true = refl
-and-false false = refl
-
-eqb-turned : (a b : ℕ) → eqb a b ≡ eqb b a
-eqb-turned a b = elim (ℕ-discrete a b) [ yes e ↦ eq-eqb a b e ∙ sym (eq-eqb b a (sym e)) | no n ↦ ne-eqb a b n ∙ sym (ne-eqb b a (λ e. n (sym e))) ]
 
 nothing : markFrom false (λ m. false) ≡ 0
 unfolding markFrom sumTo digit

@@ -3,11 +3,12 @@ use Prim.Native.Nat.{ℕ, _+_, _*_, _≤_, _<_}
 use native.Mathlib.Nat.{mul-le-mul}
 use native.Mathlib.Omega.{arith}
 use native.Mathlib.Decide.{ℕ-discrete}
-use mathlib.Core.Path.{_≡_, refl, sym, _∙_}
+use mathlib.Core.Path.{_≡_, refl, _∙_}
 use mathlib.Core.List.{List}
-use lib.Arith.{digits-lt, digits-div, digits-mod}
+use lib.Arith.{digits-lt}
 use lib.ListN.{length, getD, set, length-set}
 use lib.Seq.{getD-set-same, getD-set-other}
+use Rattle.hall.proofs.HallCode.{area-small, layers-small}
 use Rattle.marks.specs.Marks.{SameFrom}
 use Rattle.marks.specs.Post.{Layered}
 
@@ -19,12 +20,10 @@ pub record Bounds (size h t v long : ℕ) : Type 0 where
   pub inside : t * size + v < long
 
 pub size-small : (width height h : ℕ) (layers : List ℕ) → Layered width height h layers → width * height ≤ 256
-size-small width height h layers l = mul-le-mul {n₁ = width} {m₁ = height} {n₂ = 16} {m₂ = 16} (l .wide) (l .high)
+size-small width height h layers l = area-small (l .wide) (l .high)
 
 pub whole-small : (width height h : ℕ) (layers : List ℕ) → Layered width height h layers → (h + 1) * (width * height) ≤ 16384
-whole-small width height h layers l =
-    let late = l .late in
-    mul-le-mul {n₁ = h + 1} {m₁ = width * height} {n₂ = 64} {m₂ = 256} (omega arith) (size-small width height h layers l)
+whole-small width height h layers l = layers-small (l .late) (size-small width height h layers l)
 
 pub bounds : (width height h t v : ℕ) (layers : List ℕ) → Layered width height h layers → t ≤ h → v < width * height → Bounds (width * height) h t v (length layers)
 bounds width height h t v layers l k i =
@@ -38,12 +37,6 @@ bounds width height h t v layers l k i =
       below = below;
       inside = omega arith;
     }
-
-pub same-step : (size s t u v : ℕ) → u < size → v < size → s * size + u ≡ t * size + v → s ≡ t
-same-step size s t u v h k e = sym (digits-div s {m = size} {r = u} h) ∙ (rw e (digits-div t {m = size} {r = v} k))
-
-pub same-cell : (size s t u v : ℕ) → u < size → v < size → s * size + u ≡ t * size + v → u ≡ v
-same-cell size s t u v h k e = sym (digits-mod s {m = size} {r = u} h) ∙ (rw e (digits-mod t {m = size} {r = v} k))
 
 -- ---- what a table keeps
 

@@ -1,7 +1,7 @@
 -- Two results that the contract of `mark_all` allows are equal: every byte of the layers' least length is its mark, and every other is
 -- as it was. Assumes nothing.
 use Prim.Native.Nat.{ℕ, zero, suc, _+_, _*_, _/_, _%_, _≤_, _<_}
-use native.Mathlib.Nat.{div-add-mod', div-lt-iff-lt-mul, mod-lt, mul-comm}
+use native.Mathlib.Nat.{div-add-mod', div-lt-iff-lt-mul, mod-lt}
 use native.Mathlib.Decide.{decLe}
 use native.Mathlib.Omega.{arith}
 use mathlib.Core.Path.{_≡_, sym, ap, _∙_}

@@ -7,12 +7,13 @@ use mathlib.Core.Path.{_≡_, refl, sym, ap, _∙_}
 use mathlib.Core.List.{List, [], _∷_}
 use lib.ListN.{length, getD, set}
 use lib.Seq.{getD-set-same, getD-set-other}
+use Rattle.lists.proofs.Parts.{same-part, same-place}
 use Rattle.routes.specs.declared.Bar.{Bar}
 use Rattle.routes.specs.declared.Bar.the-variants.{Stay}
 use Rattle.marks.specs.Marks.{markOf, SameFrom}
 use Rattle.marks.specs.Post.{MarkedMore}
 use Rattle.marks.proofs.Marking.{mark-stayed, mark-not-stayed}
-use Rattle.marks.proofs.Places.{same-step, same-cell, same-from}
+use Rattle.marks.proofs.Places.{same-from}
 
 -- steps a up to t, t not among them
 pub record Stayed (size cell a t : ℕ) (before after : List ℕ) : Type 0 where
@@ -51,9 +52,9 @@ module _ (width height h cell a b : ℕ) where
     untouched : (s v : ℕ) → v < width * height → (v ≡ cell → a ≤ s → s ≤ b → ⊥) → getD after (s * (width * height) + v) 0 ≡ getD before (s * (width * height) + v) 0
     untouched s v i n =
         st .outside (s * (width * height) + v) (λ r l k e.
-        let f : s ≡ r = same-step (width * height) s r v cell i c e in
+        let f : s ≡ r = same-part (width * height) s r v cell i c e in
         let e1 = all .ended in
-        n (same-cell (width * height) s r v cell i c e) (omega arith) (omega arith))
+        n (same-place (width * height) s r v cell i c e) (omega arith) (omega arith))
 
     stay-mark : (bars : List Bar) (s v : ℕ) → s ≤ h → v < width * height → getD before (s * (width * height) + v) 0 ≡ markOf width height bars s v → getD after (s * (width * height) + v) 0 ≡ markOf width height (Stay cell a b ∷ bars) s v
     stay-mark bars s v l i e = go (ℕ-discrete v cell) (decLe a s) (decLe s b)

@@ -13,7 +13,6 @@ use lib.Dec.{T, ltb, eqb}
 use lib.ListN.{length, getD}
 use Rattle.lists.proofs.Tests.{is-true, and-both, or-fails}
 use Rattle.hall.specs.Hall.{Hall, size, isOpen}
-use Rattle.hall.proofs.HallCode.{area-small}
 use Rattle.job.specs.Job.{Job, wrongCapacity}
 use Rattle.job.specs.Verdict.{judgeWith, ifAccepted}
 use Rattle.job.specs.declared.Verdict.{Verdict}
@@ -35,9 +34,6 @@ use Rattle.planner.proofs.Promises.{planned-promised}
 
 pub plans-small : (count h capacity : ℕ) → count ≤ 8 → h ≤ 63 → capacity ≤ 1024 → capacity * (count * (h + 1)) ≤ 524288
 plans-small count h capacity l k m = let n : h + 1 ≤ 64 = omega arith in mul-le-mul m (mul-le-mul l n)
-
-pub layers-small : (width height h : ℕ) → width ≤ 16 → height ≤ 16 → h ≤ 63 → (h + 1) * (width * height) ≤ 16384
-layers-small width height h l k m = let n : h + 1 ≤ 64 = omega arith in mul-le-mul n (area-small l k)
 
 module _ (task : Task) (ts : Tables) where
   pub short-columns : length (ts .columns) < 8 * task .capacity → true ≡ shortTable (jobIn task) (task .capacity) ts

@@ -2,11 +2,11 @@
 -- Assumes nothing.
 use mathlib.Core.Path.{_≡_, refl}
 use mathlib.Core.List.{_∷_, map, head-eq-of-cons-eq, tail-eq-of-cons-eq}
-use Rattle.lists.specs.Lists.{range, sumTo, only, keep, anyOf, firstOf, each}
+use Rattle.lists.specs.Lists.{range, sumTo, only, keep, anyOf, firstOf, each, refuseIf}
 use Rattle.hall.specs.Hall.{wrongSide, wrongGrid, wrongByte, wrongBytes, isOpen}
 use Rattle.hall.specs.Moves.{onGrid, cellAt, landing, reachFrom, reach}
 use Rattle.job.specs.Job.{wrongLimits, wrongCapacity, wrongCount, wrongEnds, firstWrong, share, pairs, firstShared}
-use Rattle.job.specs.Verdict.{refuseIf, endsVerdict, sharedVerdict, judgeWith, ifAccepted}
+use Rattle.job.specs.Verdict.{endsVerdict, sharedVerdict, judgeWith, ifAccepted}
 use Rattle.routes.specs.Route.{stepCost, cost}
 use Rattle.routes.specs.Bars.{barsFor, barsCell, barsWay, mayStand, mayTurn}
 use Rattle.routes.specs.Best.{cheaper, better, bestOf, inFront, bestWay, bestRoute}

@@ -26,7 +26,7 @@ use Rattle.planner.specs.declared.Answer.{Answer}
 use Rattle.planner.specs.declared.Answer.the-variants.{Plan, Refused, Short, NoPlan, Full}
 use Rattle.planner.proofs.Promises.{one-record}
 use Rattle.planner.proofs.Settled.{plan-settled}
-use Rattle.promises.specs.Promises.{numberOf, Runs, AlwaysNumbered, RefusesFirst, ShortIsSeven, Left, TablesLeft, NothingElse, PlanGiven, ZeroIsLeast, EightIsNone, ByNeed, NineByNeed, MoreAltersNothing, CheckIsExact, PassIsSafe}
+use Rattle.promises.specs.Promises.{numberOf, Runs, AlwaysNumbered, RefusesFirst, ShortIsSeven, Left, TablesLeft, NothingElse, ZeroIsLeast, EightIsNone, ByNeed, NineByNeed, MoreAltersNothing, CheckIsExact, PassIsSafe}
 
 -- ---- what the definitions give
 

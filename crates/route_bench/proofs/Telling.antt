@@ -1,17 +1,13 @@
 -- What a test's answer tells, and the bounds of the products that are looked at.
 -- Assumes nothing.
-use Prim.Native.Nat.{ℕ, _+_, _*_, _≤_, _<_}
-use native.Mathlib.Nat.{le-trans, mul-le-mul-left, mul-le-mul-right}
+use Prim.Native.Nat.{ℕ, _+_, _<_}
 use native.Mathlib.Decide.{decLe}
 use native.Mathlib.Omega.{arith}
 use mathlib.Core.Path.{_≡_, refl, sym}
-use mathlib.Core.Bool.{Bool, true, false, not}
+use mathlib.Core.Bool.{Bool, true, false, not, true≢false}
 use lib.Dec.{ltb, eqb}
 use borrow.Author.Tests.{ltb-true, ltb-false, eqb-true, eqb-false}
 use Rattle.route_bench.specs.Answer.{Tells}
-
-true-not-false : true ≡ false → ⊥
-true-not-false e = let z : _≡_ {A = ℕ} 0 1 = cc in omega arith
 
 pub tells-less : (P : Type 0) (a b : ℕ) → (a < b → P) → (P → a < b) → Tells P (ltb a b)
 unfolding Tells
@@ -38,15 +34,12 @@ tells-same P Q false to from n = λ q. n (from q)
 pub holds : (P : Type 0) (b : Bool) → Tells P b → not b ≡ false → P
 unfolding Tells
 holds P true t e = t
-holds P false t e = absurd (true-not-false e)
+holds P false t e = absurd (true≢false e)
 
 pub fails : (P : Type 0) (b : Bool) → Tells P b → not b ≡ true → P → ⊥
 unfolding Tells
-fails P true t e p = true-not-false (sym e)
+fails P true t e p = true≢false (sym e)
 fails P false t e p = t p
-
-pub room-small : (h size : ℕ) → h ≤ 63 → size ≤ 256 → (h + 1) * size ≤ 16384
-room-small h size l s = le-trans (mul-le-mul-left (h + 1) s) (mul-le-mul-right {m = h + 1} {n = 64} 256 (omega arith))
 
 -- below y + 1 as below y and at y
 pub one-further : (f : ℕ → ℕ) (y : ℕ) → ((x : ℕ) → 0 < x → x < y → f x < x) → f y < y → (x : ℕ) → 0 < x → x < y + 1 → f x < x

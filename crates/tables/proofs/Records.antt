@@ -1,13 +1,14 @@
 -- A record written: the eight entries of a node, column after column, are eight different places, and none is another node's.
 -- Assumes nothing.
-use Prim.Native.Nat.{ℕ, _+_, _*_, _%_, _≤_, _<_}
+use Prim.Native.Nat.{ℕ, _+_, _*_, _≤_, _<_}
 use mathlib.Core.Path.{_≡_, refl, sym, ap, subst, _∙_}
 use mathlib.Core.List.{List, [], _∷_}
 use native.Mathlib.Omega.{arith}
 use borrow.Author.Count.{below-more}
-use lib.Arith.{digits-mod, digits-lt}
+use lib.Arith.{digits-lt}
 use lib.ListN.{length, getD, set, length-set}
 use lib.Seq.{getD-set-same, getD-set-other, drop-set-lt}
+use Rattle.lists.proofs.Parts.{same-place}
 use Rattle.routes.specs.declared.Bar.{Bar}
 use Rattle.routes.specs.declared.Bar.the-variants.{Free, Stay, Cross}
 use Rattle.records.specs.Columns.{entry, barFrom, barAt}
@@ -18,7 +19,7 @@ use Rattle.tables.specs.declared.Code.{Code}
 
 -- the entries of two nodes are different places
 pub other-node : (capacity c d x y : ℕ) → x < capacity → y < capacity → (y ≡ x → ⊥) → d * capacity + y ≡ c * capacity + x → ⊥
-other-node capacity c d x y hx hy ne e = ne (sym (digits-mod d hy) ∙ ap (λ (n : ℕ). n % capacity) e ∙ digits-mod c hx)
+other-node capacity c d x y hx hy ne e = ne (same-place capacity d c y x hy hx e)
 
 -- a smaller column's entries stand before
 pub earlier-column : (capacity c d x : ℕ) → x < capacity → c < d → c * capacity + x < d * capacity

@@ -4,22 +4,18 @@ use native.Mathlib.Nat.{div-add-mod', div-lt-iff-lt-mul, mod-lt}
 use native.Mathlib.Decide.{ℕ-discrete, decLt, decLe}
 use native.Mathlib.Omega.{arith}
 use mathlib.Core.Path.{_≡_, refl, sym, ap, _∙_}
-use mathlib.Core.Bool.{true, false}
 use mathlib.Core.List.{List}
-use lib.ListN.{length, getD, drop}
+use lib.ListN.{getD, drop}
 use lib.Seq.{getD-drop}
 use Rattle.lists.proofs.Parts.{same-entries}
+use Rattle.lists.proofs.Tests.{not-both}
 use Rattle.routes.specs.declared.Bar.{Bar}
 use Rattle.records.specs.Columns.{entry}
-use Rattle.tables.specs.State.{isOpenAt}
 use Rattle.tables.specs.Post.{LeastAt, LeastFact, Recorded}
 use Rattle.tables.specs.declared.Least.{Least}
 use Rattle.tables.specs.declared.Least.the-variants.{Nothing, At}
 
 -- ---- the open node of least sum, then of least number
-
-not-both : (capacity : ℕ) (columns : List ℕ) (x : ℕ) → isOpenAt capacity columns x ≡ true → isOpenAt capacity columns x ≡ false → ⊥
-not-both capacity columns x e f = let z : _≡_ {A = ℕ} 0 1 = cc in omega arith
 
 module _ (capacity : ℕ) (columns : List ℕ) (n : ℕ) where
   one-least : (x y : ℕ) → LeastAt capacity columns n x → LeastAt capacity columns n y → x ≡ y
@@ -33,8 +29,8 @@ module _ (capacity : ℕ) (columns : List ℕ) (n : ℕ) where
   pub least-open-settled : (r r′ : Least) → LeastFact capacity columns n r → LeastFact capacity columns n r′ → r ≡ r′
   unfolding LeastFact
   least-open-settled Nothing Nothing p q = refl
-  least-open-settled Nothing (At y) p q = absurd (not-both capacity columns y (q .opened) (p y (q .inside)))
-  least-open-settled (At x) Nothing p q = absurd (not-both capacity columns x (p .opened) (q x (p .inside)))
+  least-open-settled Nothing (At y) p q = absurd (not-both (q .opened) (p y (q .inside)))
+  least-open-settled (At x) Nothing p q = absurd (not-both (p .opened) (q x (p .inside)))
   least-open-settled (At x) (At y) p q = ap At (one-least x y p q)
 
 -- ---- a record

@@ -2,19 +2,17 @@
 -- Assumes nothing.
 use Prim.Native.Nat.{ℕ, _+_, _≤_, _<_}
 use mathlib.Core.Path.{_≡_, ap, subst}
-use mathlib.Core.Bool.{Bool, true, false, not}
+use mathlib.Core.Bool.{true, false, not}
 use mathlib.Core.List.{List}
 use native.Mathlib.Omega.{arith}
 use borrow.Author.Count.{below-more}
 use borrow.Author.Tests.{eq-eqb, ne-eqb}
+use Rattle.lists.proofs.Tests.{not-both}
 use Rattle.records.specs.Columns.{entry, sumAt}
 use Rattle.tables.specs.State.{isOpenAt}
 use Rattle.tables.specs.Post.{LeastFact}
 use Rattle.tables.specs.declared.Least.{Least}
 use Rattle.tables.specs.declared.Least.the-variants.{Nothing, At}
-
-true-not-false : {b : Bool} → b ≡ true → b ≡ false → ⊥
-true-not-false p q = let z : _≡_ {A = Bool} true false = cc in let o : _≡_ {A = ℕ} 0 1 = cc in omega arith
 
 module _ (capacity : ℕ) (columns : List ℕ) where
   pub is-open : (x : ℕ) → (entry capacity columns 7 x ≡ 0 → ⊥) → isOpenAt capacity columns x ≡ true
@@ -33,7 +31,7 @@ module _ (capacity : ℕ) (columns : List ℕ) where
       record {
         inside = omega (arith, h .inside);
         opened = h .opened;
-        least = below-more (λ y. isOpenAt capacity columns y ≡ true → sumAt capacity columns x ≤ sumAt capacity columns y) n (h .least) (λ o. absurd (true-not-false o (is-closed n z)));
+        least = below-more (λ y. isOpenAt capacity columns y ≡ true → sumAt capacity columns x ≤ sumAt capacity columns y) n (h .least) (λ o. absurd (not-both o (is-closed n z)));
         first = h .first;
       }
 
@@ -44,8 +42,8 @@ module _ (capacity : ℕ) (columns : List ℕ) where
       record {
         inside = omega arith;
         opened = is-open n z;
-        least = below-more (λ y. isOpenAt capacity columns y ≡ true → sumAt capacity columns n ≤ sumAt capacity columns y) n (λ y l o. absurd (true-not-false o (h y l))) (λ o. omega arith);
-        first = λ y l o. absurd (true-not-false o (h y l));
+        least = below-more (λ y. isOpenAt capacity columns y ≡ true → sumAt capacity columns n ≤ sumAt capacity columns y) n (λ y l o. absurd (not-both o (h y l))) (λ o. omega arith);
+        first = λ y l o. absurd (not-both o (h y l));
       }
 
   pub take-only : (n : ℕ) (best : Least) → best ≡ Nothing → (entry capacity columns 7 n ≡ 0 → ⊥) → LeastFact capacity columns n best → LeastFact capacity columns (n + 1) (At n)

@@ -1,6 +1,7 @@
 -- `book::judge_kind` meets its contract: each return is the case of the two tests that led there. Assumes nothing.
 use borrow.Author.Tests.{lt-ltb, le-ltb}
-use Rattle.book.specs.Book.{noKind, refuseIf}
+use Rattle.lists.specs.Lists.{refuseIf}
+use Rattle.book.specs.Book.{noKind}
 use Rattle.book.proofs.judge_kind.Statement.{statement}
 use Rattle.book.proofs.judge_kind.Tie as tie
 

@@ -6,15 +6,18 @@ use mathlib.Core.Path.{sym, ap, _∙_}
 use mathlib.Core.List.{map}
 use lib.Dec.{eqb}
 use Rattle.layers.specs.Fill.{lentHall, levelIn, turnsBy, afterStep}
-use Rattle.layers.proofs.CellLaws.{size-small, cell-inside, least-most, cell-barred, cell-closed, cell-goes-on}
+use Rattle.hall.proofs.HallCode.{area-small}
+use Rattle.layers.proofs.CellPlaces.{cell-inside}
+use Rattle.layers.proofs.LeastLaws.{least-most}
+use Rattle.layers.proofs.CellLaws.{cell-barred, cell-closed, cell-goes-on}
 use Rattle.layers.proofs.cell_level.Statement.{statement}
 use Rattle.layers.proofs.cell_level.Tie as tie
 
 mul-v : tie.Need-mul-v
-mul-v c = let small = size-small (c .before .before .args .width) (c .before .before .args .height) (omega arith) (omega arith) in let inside = cell-inside (c .before .before .args .width) (c .before .before .args .height) (c .before .before .args .row) (c .before .before .args .col) (omega arith) (omega arith) in omega arith
+mul-v c = let small = area-small {w = c .before .before .args .width} {h = c .before .before .args .height} (omega arith) (omega arith) in let inside = cell-inside (c .before .before .args .width) (c .before .before .args .height) (c .before .before .args .row) (c .before .before .args .col) (omega arith) (omega arith) in omega arith
 
 add-v : tie.Need-add-v
-add-v c = let small = size-small (c .before .before .args .width) (c .before .before .args .height) (omega arith) (omega arith) in let inside = cell-inside (c .before .before .args .width) (c .before .before .args .height) (c .before .before .args .row) (c .before .before .args .col) (omega arith) (omega arith) in omega arith
+add-v c = let small = area-small {w = c .before .before .args .width} {h = c .before .before .args .height} (omega arith) (omega arith) in let inside = cell-inside (c .before .before .args .width) (c .before .before .args .height) (c .before .before .args .row) (c .before .before .args .col) (omega arith) (omega arith) in omega arith
 
 returns : tie.Need-returns
 returns c = cell-barred (lentHall (c .before .before .before .args .width) (c .before .before .before .args .height) (c .before .before .before .args .hall .now)) (c .before .before .before .args .goal) (levelIn (c .before .before .before .args .layers .now) (c .before .before .before .args .next)) (c .before .before .before .args .row * c .before .before .before .args .width + c .before .before .before .args .col) (c .before .before .before .args .mark) (c .if1 .taken)

@@ -1,7 +1,7 @@
 -- `layers::fill` meets its contract: the last layer is made, then all others. Assumes nothing.
 use native.Mathlib.Omega.{arith}
 use Rattle.layers.specs.Fill.{lentHall}
-use Rattle.layers.proofs.CellLaws.{size-small}
+use Rattle.hall.proofs.HallCode.{area-small}
 use Rattle.layers.proofs.MadeLaws.{levelled}
 use borrow.Author.Needs.{needs}
 use Rattle.layers.proofs.fill.Statement.{statement}
@@ -11,7 +11,7 @@ slice-aggregate-lay-floor : tie.Need-slice-aggregate-lay-floor
 slice-aggregate-lay-floor c = search needs
 
 lay-floor-requires : tie.Need-lay-floor-requires
-lay-floor-requires c κs = let small = size-small (c .before .before .before .args .width) (c .before .before .before .args .height) (omega arith) (omega arith) in omega arith
+lay-floor-requires c κs = let small = area-small {w = c .before .before .before .args .width} {h = c .before .before .before .args .height} (omega arith) (omega arith) in omega arith
 
 mul-fill-last : tie.Need-mul-fill-last
 mul-fill-last c = search needs

@@ -4,7 +4,7 @@ use native.Mathlib.Omega.{arith}
 use Prim.Native.Nat.{_-_, _*_, _≤_}
 use mathlib.Core.Path.{_≡_, subst}
 use Rattle.layers.specs.Fill.{lentHall, MadeFrom}
-use Rattle.layers.proofs.CellLaws.{size-small}
+use Rattle.hall.proofs.HallCode.{area-small}
 use Rattle.layers.proofs.MadeLaws.{layers-none, layers-more, one-more}
 use Rattle.lists.proofs.Parts.{part-within}
 use Rattle.layers.proofs.fill_back.Statement.{statement}
@@ -23,7 +23,7 @@ sub-t : tie.Need-sub-t Inv-loop μ-loop
 sub-t c = omega arith
 
 mul-fill-layer : tie.Need-mul-fill-layer Inv-loop μ-loop
-mul-fill-layer c = let small = size-small (c .before .before .before .before .before .args .width) (c .before .before .before .before .before .args .height) (omega arith) (omega arith) in omega arith
+mul-fill-layer c = let small = area-small {w = c .before .before .before .before .before .args .width} {h = c .before .before .before .before .before .args .height} (omega arith) (omega arith) in omega arith
 
 mul-fill-layer-2 : tie.Need-mul-fill-layer-2 Inv-loop μ-loop
 mul-fill-layer-2 c = let apart = part-within (c .before .loop .t - 1) (c .before .before .before .before .before .args .h) (c .before .before .before .before .before .args .width * c .before .before .before .before .before .args .height) (omega arith) in let last = one-more (c .before .before .before .before .before .args .h) (c .before .before .before .before .before .args .width * c .before .before .before .before .before .args .height) in omega (arith, c .before .loop .inv .1 .long)

@@ -2,7 +2,7 @@ use borrow.Author.Needs.{needs}
 use native.Mathlib.Omega.{arith}
 use Prim.Native.Nat.{_-_, _*_, _≤_}
 use Rattle.layers.specs.Fill.{lentHall, lastByte, Made}
-use Rattle.layers.proofs.CellLaws.{size-small}
+use Rattle.hall.proofs.HallCode.{area-small}
 use Rattle.layers.proofs.MadeLaws.{made-none, made-all, last-more}
 use Rattle.layers.proofs.fill_last.Statement.{statement}
 use Rattle.layers.proofs.fill_last.Tie as tie
@@ -14,7 +14,7 @@ abbrev μ-loop : tie.MeasureT-loop
 μ-loop hall width height goal base layers₀ v₀ layers v = v
 
 mul-v : tie.Need-mul-v Inv-loop μ-loop
-mul-v c = let small = size-small (c .before .before .args .width) (c .before .before .args .height) (omega arith) (omega arith) in omega arith
+mul-v c = let small = area-small {w = c .before .before .args .width} {h = c .before .before .args .height} (omega arith) (omega arith) in omega arith
 
 loop-holds : tie.Need-loop-holds Inv-loop μ-loop
 loop-holds c = (omega arith, made-none (c .before .before .args .base) (c .before .before .args .width * c .before .before .args .height) (c .before .before .args .width * c .before .before .args .height) (lastByte (lentHall (c .before .before .args .width) (c .before .before .args .height) (c .before .before .args .hall .now)) (c .before .before .args .goal)) (c .before .before .args .layers .now) (omega arith))

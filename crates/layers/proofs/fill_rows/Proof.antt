@@ -4,7 +4,7 @@ use borrow.Author.Needs.{needs}
 use Prim.Native.Nat.{_+_, _*_, _≤_}
 use mathlib.Core.Path.{_∙_}
 use Rattle.layers.specs.Fill.{lentHall, madeByte, Made}
-use Rattle.layers.proofs.CellLaws.{size-small}
+use Rattle.hall.proofs.HallCode.{area-small}
 use Rattle.layers.proofs.MadeLaws.{made-none, rows-more}
 use Rattle.layers.proofs.SpanLaws.{rows-some, start-before, filled-all}
 use Rattle.layers.proofs.fill_rows.Statement.{statement}
@@ -23,7 +23,7 @@ loop-holds : tie.Need-loop-holds Inv-loop μ-loop
 loop-holds c = (omega arith, made-none (c .before .before .before .before .before .before .before .args .base) (c .before .before .fill-bottom .result) (c .before .before .fill-bottom .result) (madeByte (lentHall (c .before .before .before .before .before .before .before .args .width) (c .before .before .before .before .before .before .before .args .height) (c .before .before .before .before .before .before .before .args .hall .now)) (c .before .before .before .before .before .before .before .args .width * c .before .before .before .before .before .before .before .args .height) (c .before .before .fill-bottom .last .1 .1 .1 .1 .0) (c .before .before .before .before .before .before .before .args .base + c .before .before .before .before .before .before .before .args .width * c .before .before .before .before .before .before .before .args .height)) (c .before .before .fill-bottom .last .1 .1 .1 .1 .0) (omega arith))
 
 mul-span-start : tie.Need-mul-span-start Inv-loop μ-loop
-mul-span-start c = let small = size-small (c .before .before .before .before .before .before .before .before .before .args .width) (c .before .before .before .before .before .before .before .before .before .args .height) (omega arith) (omega arith) in omega arith
+mul-span-start c = let small = area-small {w = c .before .before .before .before .before .before .before .before .before .args .width} {h = c .before .before .before .before .before .before .before .before .before .args .height} (omega arith) (omega arith) in omega arith
 
 span-start-requires : tie.Need-span-start-requires Inv-loop μ-loop
 span-start-requires c κs = rows-some (c .before .before .before .before .before .before .before .before .before .args .width) (c .before .before .before .before .before .before .before .before .before .args .height) (omega arith)

@@ -2,7 +2,7 @@
 use native.Mathlib.Omega.{arith}
 use Prim.Native.Nat.{_+_, _-_, _*_, _≤_}
 use Rattle.layers.specs.Fill.{lentHall, madeByte, Made}
-use Rattle.layers.proofs.CellLaws.{size-small}
+use Rattle.hall.proofs.HallCode.{area-small}
 use Rattle.layers.proofs.MadeLaws.{made-none}
 use Rattle.layers.proofs.SpanLaws.{span-more, span-all}
 use Rattle.layers.proofs.fill_span.Statement.{statement}
@@ -15,7 +15,7 @@ abbrev μ-loop : tie.MeasureT-loop
 μ-loop hall floor width height base from to layers₀ size v₀ layers v = to - v
 
 mul-size : tie.Need-mul-size Inv-loop μ-loop
-mul-size c = let small = size-small (c .before .before .before .args .width) (c .before .before .before .args .height) (omega arith) (omega arith) in omega arith
+mul-size c = let small = area-small {w = c .before .before .before .args .width} {h = c .before .before .before .args .height} (omega arith) (omega arith) in omega arith
 
 loop-holds : tie.Need-loop-holds Inv-loop μ-loop
 loop-holds c = ((omega arith, omega arith), made-none (c .before .before .before .args .base) (c .before .before .before .args .from) (c .before .before .before .args .from) (madeByte (lentHall (c .before .before .before .args .width) (c .before .before .before .args .height) (c .before .before .before .args .hall .now)) (c .before .before .before .args .width * c .before .before .before .args .height) (c .before .before .before .args .layers .now) (c .before .before .before .args .base + c .before .before .before .args .width * c .before .before .before .args .height)) (c .before .before .before .args .layers .now) (omega arith))
@@ -36,7 +36,7 @@ fill-near-requires : tie.Need-fill-near-requires Inv-loop μ-loop
 fill-near-requires c κs = omega (arith, c .before .before .before .loop .inv .1 .long)
 
 add-v : tie.Need-add-v Inv-loop μ-loop
-add-v c = let small = size-small (c .before .before .before .before .before .before .before .before .before .before .args .width) (c .before .before .before .before .before .before .before .before .before .before .args .height) (omega arith) (omega arith) in omega arith
+add-v c = let small = area-small {w = c .before .before .before .before .before .before .before .before .before .before .args .width} {h = c .before .before .before .before .before .before .before .before .before .before .args .height} (omega arith) (omega arith) in omega arith
 
 loop-less : tie.Need-loop-less Inv-loop μ-loop
 loop-less c = omega arith

@@ -1,7 +1,7 @@
 -- `layers::free_level` meets its contract: a set digit leaves nothing of the move. Assumes nothing.
 use Rattle.hall.specs.Moves.{landing}
 use Rattle.layers.specs.Fill.{levelIn}
-use Rattle.layers.proofs.CellLaws.{barred-move, free-move}
+use Rattle.layers.proofs.LeastLaws.{barred-move, free-move}
 use borrow.Author.Needs.{needs}
 use Rattle.layers.proofs.free_level.Statement.{statement}
 use Rattle.layers.proofs.free_level.Tie as tie

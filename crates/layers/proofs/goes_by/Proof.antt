@@ -3,7 +3,7 @@
 use borrow.Author.Needs.{needs}
 use native.Mathlib.Omega.{arith}
 use Rattle.hall.specs.Moves.{landing}
-use Rattle.layers.proofs.CellLaws.{landed-inside}
+use Rattle.layers.proofs.CellPlaces.{landed-inside}
 use Rattle.layers.proofs.StepLaws.{goes-barred, goes-off, goes-there, goes-elsewhere}
 use Rattle.layers.proofs.goes_by.Statement.{statement}
 use Rattle.layers.proofs.goes_by.Tie as tie

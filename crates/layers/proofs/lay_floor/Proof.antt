@@ -2,7 +2,7 @@
 use native.Mathlib.Omega.{arith}
 use Prim.Native.Nat.{_-_, _*_}
 use Rattle.layers.specs.Fill.{lentHall}
-use Rattle.layers.proofs.CellLaws.{size-small}
+use Rattle.hall.proofs.HallCode.{area-small}
 use Rattle.layers.proofs.FloorLaws.{Laid, laid-none, laid-more, laid-all}
 use Rattle.layers.proofs.lay_floor.Statement.{statement}
 use Rattle.layers.proofs.lay_floor.Tie as tie
@@ -17,16 +17,16 @@ loop-holds : tie.Need-loop-holds Inv-loop μ-loop
 loop-holds c = laid-none (lentHall (c .before .before .args .width) (c .before .before .args .height) (c .before .before .args .hall .now)) (c .before .before .args .floor .now)
 
 mul-loop : tie.Need-mul-loop Inv-loop μ-loop
-mul-loop c = let small = size-small (c .before .before .before .args .width) (c .before .before .before .args .height) (omega arith) (omega arith) in omega arith
+mul-loop c = let small = area-small {w = c .before .before .before .args .width} {h = c .before .before .before .args .height} (omega arith) (omega arith) in omega arith
 
 floor-mark-requires : tie.Need-floor-mark-requires Inv-loop μ-loop
-floor-mark-requires c κs = let small = size-small (c .before .before .before .before .args .width) (c .before .before .before .before .args .height) (omega arith) (omega arith) in omega arith
+floor-mark-requires c κs = let small = area-small {w = c .before .before .before .before .args .width} {h = c .before .before .before .before .args .height} (omega arith) (omega arith) in omega arith
 
 slice-write-floor : tie.Need-slice-write-floor Inv-loop μ-loop
 slice-write-floor c = omega (arith, c .before .before .loop .inv .long)
 
 add-v : tie.Need-add-v Inv-loop μ-loop
-add-v c = let small = size-small (c .before .before .before .before .before .args .width) (c .before .before .before .before .before .args .height) (omega arith) (omega arith) in omega arith
+add-v c = let small = area-small {w = c .before .before .before .before .before .args .width} {h = c .before .before .before .before .before .args .height} (omega arith) (omega arith) in omega arith
 
 loop-less : tie.Need-loop-less Inv-loop μ-loop
 loop-less c = omega arith

@@ -4,7 +4,7 @@ use Prim.Native.Nat.{_-_}
 use native.Mathlib.Omega.{arith}
 use borrow.Author.Needs.{needs}
 use Rattle.layers.specs.Fill.{levelIn}
-use Rattle.layers.proofs.CellLaws.{Walked, walk-begins, walk-more, walk-ends}
+use Rattle.layers.proofs.LeastLaws.{Walked, walk-begins, walk-more, walk-ends}
 use Rattle.layers.proofs.least_on.Statement.{statement}
 use Rattle.layers.proofs.least_on.Tie as tie
 

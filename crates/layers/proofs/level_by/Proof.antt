@@ -2,7 +2,8 @@
 use native.Mathlib.Omega.{arith}
 use Rattle.hall.specs.Moves.{landing}
 use Rattle.layers.specs.Fill.{levelIn}
-use Rattle.layers.proofs.CellLaws.{landed-inside, lands-off, lands-on}
+use Rattle.layers.proofs.CellPlaces.{landed-inside}
+use Rattle.layers.proofs.LeastLaws.{lands-off, lands-on}
 use borrow.Author.Needs.{needs}
 use Rattle.layers.proofs.level_by.Statement.{statement}
 use Rattle.layers.proofs.level_by.Tie as tie

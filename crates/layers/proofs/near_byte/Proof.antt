@@ -2,7 +2,7 @@
 use native.Mathlib.Omega.{arith}
 use Rattle.hall.specs.Moves.{moveCount}
 use Rattle.layers.specs.Fill.{nearLevel}
-use Rattle.layers.proofs.CellLaws.{leastTo-most}
+use Rattle.layers.proofs.LeastLaws.{leastTo-most}
 use Rattle.layers.proofs.NearLaws.{near-made}
 use borrow.Author.Needs.{needs}
 use Rattle.layers.proofs.near_byte.Statement.{statement}

@@ -5,7 +5,7 @@ use Prim.Native.Nat.{_+_, _-_, _*_, _/_, _%_}
 use mathlib.Core.Path.{ap, _∙_}
 use Rattle.layers.specs.Fill.{turnsBy}
 use Rattle.layers.specs.Write.{goneTo}
-use Rattle.layers.proofs.CellLaws.{place-inside}
+use Rattle.layers.proofs.CellPlaces.{place-inside}
 use Rattle.layers.proofs.StepLaws.{Passed, moves-begin, move-found, move-passed, moves-end}
 use Rattle.layers.proofs.step_on.Statement.{statement}
 use Rattle.layers.proofs.step_on.Tie as tie

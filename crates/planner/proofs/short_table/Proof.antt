@@ -1,8 +1,8 @@
 -- The four tests in their order; all products are small. Assumes nothing.
 use native.Mathlib.Omega.{arith}
 use borrow.Author.Needs.{needs}
-use Rattle.hall.proofs.HallCode.{area-small}
-use Rattle.planner.proofs.Answers.{plans-small, layers-small, short-columns, short-plans, short-layers, short-output}
+use Rattle.hall.proofs.HallCode.{area-small, layers-small}
+use Rattle.planner.proofs.Answers.{plans-small, short-columns, short-plans, short-layers, short-output}
 use Rattle.planner.proofs.short_table.Statement.{statement}
 use Rattle.planner.proofs.short_table.Tie as tie
 
@@ -47,7 +47,7 @@ mul-if3-2 : tie.Need-mul-if3-2
 mul-if3-2 c =
     let a = c .before .before .before .before .before .before .before .before .before .before .before .args in
     let pre = c .before .before .before .before .before .before .before .before .before .before .before .pre in
-    omega (arith, layers-small (a .task .width) (a .task .height) (a .task .horizon) (pre .width-most) (pre .height-most) (pre .horizon-most))
+    omega (arith, layers-small (pre .horizon-most) (area-small (pre .width-most) (pre .height-most)))
 
 returns-3 : tie.Need-returns-3
 returns-3 c =

@@ -2,7 +2,7 @@
 use borrow.Author.Needs.{needs}
 use Prim.Native.Nat.{_*_, _<_}
 use native.Mathlib.Omega.{arith}
-use Rattle.layers.proofs.CellLaws.{size-small}
+use Rattle.hall.proofs.HallCode.{area-small}
 use Rattle.records.specs.Columns.{Falls}
 use Rattle.route_bench.specs.Answer.{Tells, RightFloor, RightRoom, RightArguments}
 use Rattle.route_bench.proofs.Telling.{tells-same, holds, fails}
@@ -30,13 +30,13 @@ returns-3 c = λ f. fails (Falls (c .before .before .before .before .before .bef
 mul-right-room : tie.Need-mul-right-room
 mul-right-room c =
     let floor = holds (RightFloor (c .before .before .before .before .before .before .before .before .before .args .hall .now) (c .before .before .before .before .before .before .before .before .before .args .width) (c .before .before .before .before .before .before .before .before .before .args .height) (c .before .before .before .before .before .before .before .before .before .args .start)) (c .before .before .before .before .right-floor .result) (c .before .before .before .before .right-floor .ensures) (c .before .before .before .if1 .left) in
-    let s = size-small (c .before .before .before .before .before .before .before .before .before .args .width) (c .before .before .before .before .before .before .before .before .before .args .height) (omega arith) (omega arith) in
+    let s = area-small {w = c .before .before .before .before .before .before .before .before .before .args .width} {h = c .before .before .before .before .before .before .before .before .before .args .height} (omega arith) (omega arith) in
     omega arith
 
 right-room-requires : tie.Need-right-room-requires
 right-room-requires c κs =
     let floor = holds (RightFloor (c .before .before .before .before .before .before .before .before .before .args .hall .now) (c .before .before .before .before .before .before .before .before .before .args .width) (c .before .before .before .before .before .before .before .before .before .args .height) (c .before .before .before .before .before .before .before .before .before .args .start)) (c .before .before .before .before .right-floor .result) (c .before .before .before .before .right-floor .ensures) (c .before .before .before .if1 .left) in
-    size-small (c .before .before .before .before .before .before .before .before .before .args .width) (c .before .before .before .before .before .before .before .before .before .args .height) (omega arith) (omega arith)
+    area-small {w = c .before .before .before .before .before .before .before .before .before .args .width} {h = c .before .before .before .before .before .before .before .before .before .args .height} (omega arith) (omega arith)
 
 returns-4 : tie.Need-returns-4
 returns-4 c =

@@ -2,7 +2,7 @@
 use borrow.Author.Needs.{needs}
 use Prim.Native.Nat.{_*_}
 use native.Mathlib.Omega.{arith}
-use Rattle.layers.proofs.CellLaws.{size-small}
+use Rattle.hall.proofs.HallCode.{area-small}
 use Rattle.route_bench.specs.Answer.{Tells, RightFloor}
 use Rattle.route_bench.proofs.Telling.{tells-less}
 use Rattle.route_bench.proofs.right_floor.Statement.{statement}
@@ -25,7 +25,7 @@ unfolding Tells
 returns-4 c = λ f. omega arith
 
 mul-if5 : tie.Need-mul-if5
-mul-if5 c = let s = size-small (c .before .before .before .before .args .width) (c .before .before .before .before .args .height) (omega arith) (omega arith) in omega arith
+mul-if5 c = let s = area-small {w = c .before .before .before .before .args .width} {h = c .before .before .before .before .args .height} (omega arith) (omega arith) in omega arith
 
 returns-5 : tie.Need-returns-5
 unfolding Tells

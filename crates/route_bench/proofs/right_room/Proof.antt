@@ -3,8 +3,9 @@ use borrow.Author.Needs.{needs}
 use Prim.Native.Nat.{_+_}
 use native.Mathlib.Omega.{arith}
 use lib.ListN.{length}
+use Rattle.hall.proofs.HallCode.{layers-small}
 use Rattle.route_bench.specs.Answer.{Tells, RightRoom}
-use Rattle.route_bench.proofs.Telling.{tells-equal, room-small}
+use Rattle.route_bench.proofs.Telling.{tells-equal}
 use Rattle.route_bench.proofs.right_room.Statement.{statement}
 use Rattle.route_bench.proofs.right_room.Tie as tie
 
@@ -16,7 +17,7 @@ add-if2 : tie.Need-add-if2
 add-if2 c = search needs
 
 mul-if2 : tie.Need-mul-if2
-mul-if2 c = let s = room-small (c .before .args .h) (c .before .args .size) (omega arith) (omega arith) in omega arith
+mul-if2 c = let s = layers-small {h = c .before .args .h} {size = c .before .args .size} (omega arith) (omega arith) in omega arith
 
 returns-2 : tie.Need-returns-2
 unfolding Tells
