@@ -7,3 +7,4 @@ pub mod Rooted
 pub mod Routing
 pub mod Seeking
 pub mod Settled
+pub mod Wrong
