@@ -62,7 +62,7 @@ module _ (task : Task) (bytes columns plans layers layers' : List ℕ) (i : ℕ)
 
 -- ---- the loop over the carriers
 
--- the first i carriers have a route without bars, and it is written
+-- the first i carriers have a route without bars, and it is written; the layers hold the levels of the last of them
 pub record FreeSoFar (task : Task) (bytes plans layers plans' layers' : List ℕ) (i : ℕ) : Type 0 where
   pub written : (j : ℕ) → j < i → routeUnder (jobOn task bytes) [] j ≡ some (routeOf (routesIn (jobOn task bytes) (stretchAt (jobOn task bytes) plans' 0)) j)
   pub put : plans' ≡ rootPlans (jobOn task bytes) plans i

@@ -36,7 +36,7 @@ not-none xs e f = omega (arith, f, ap length e)
 -- ---- a child
 
 module _ (task : Task) (bytes columns plans layers : List ℕ) (x : ℕ) (b : Barred) (made : ℕ) where
-  -- what the contract says of an answer and the tables left
+  -- the contract of `add_child`, clause by clause, of an answer and the tables left
   pub record ChildAllowed (g : Grown) (columns' plans' layers' : List ℕ) : Type 0 where
     pub kept : Kept task bytes columns plans layers columns' plans' layers'
     pub grown : ChildFact (jobOn task bytes) (task .capacity) x b made columns plans columns' plans' g
@@ -71,6 +71,7 @@ module _ (task : Task) (bytes columns plans layers : List ℕ) (x : ℕ) (b : Ba
 -- ---- the root
 
 module _ (task : Task) (bytes columns plans layers : List ℕ) where
+  -- the contract of `make_root`, likewise
   pub record RootAllowed (made : Bool) (columns' plans' layers' : List ℕ) : Type 0 where
     pub kept : Kept task bytes columns plans layers columns' plans' layers'
     pub rooted : RootFact (jobOn task bytes) (task .capacity) columns' plans' made

@@ -103,6 +103,7 @@ unfoldable pub rootSum : Task → List ℕ → Bool → ℕ
 rootSum task plans' false = 0
 rootSum task plans' true = sumIn task plans' 0
 
+-- the root, made or not: its record is written in any case, and the routes up to the first carrier that has none
 pub record RootTables (task : Task) (bytes columns plans columns' plans' layers' : List ℕ) (made : Bool) : Type 0 where
   pub sought : SoughtFree task bytes (lastSought (jobOn task bytes)) layers'
   pub routes : plans' ≡ rootPlans (jobOn task bytes) plans (freeCount (jobOn task bytes))

@@ -1,5 +1,5 @@
--- The loop's invariant: the first i carriers have a route without bars, it is written, and nothing past the tables' least lengths has
--- changed. Assumes nothing.
+-- The loop's invariant: the first i carriers have a route without bars, it is written, the layers hold the last one's levels, and nothing
+-- past the tables' least lengths has changed. Assumes nothing.
 use Prim.Native.Nat.{_-_, _≤_}
 use native.Mathlib.Omega.{arith}
 use borrow.Author.Tests.{not-true, not-false}
