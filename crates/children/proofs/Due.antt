@@ -9,6 +9,7 @@ use mathlib.Core.Option.{some}
 use lib.ListN.{length, take, drop}
 use lib.Seq.{paste}
 use Rattle.job.specs.Job.{Job, planLength}
+use Rattle.routes.specs.Bars.{Barred}
 use Rattle.routes.specs.declared.Bar.{Bar}
 use Rattle.routes.specs.declared.Bar.the-variants.{Free, Stay, Cross}
 use Rattle.records.specs.Columns.{isBar}
@@ -19,9 +20,11 @@ use Rattle.tables.specs.Tables.{plansLength}
 use Rattle.tables.specs.Post.{Room, BarFits, Fitting, Recorded}
 use Rattle.lists.proofs.Parts.{part-within}
 use Rattle.children.specs.declared.Task.{Task}
-use Rattle.children.specs.declared.Grown.the-variants.{Nothing, Full}
+use Rattle.children.specs.declared.Grown.{Grown}
+use Rattle.children.specs.declared.Grown.the-variants.{Nothing, Made, Full}
 use Rattle.children.specs.Steps.{jobOn, Ready, Kept, BarSet, ChildFact}
-use Rattle.children.specs.Children.{routeOn, RouteSought, putRoute, sumIn, ChildDue, ChildMade}
+use Rattle.children.specs.Written.{routeOn, putRoute, sumIn, copiedPlans, ChildWritten, ChildTables}
+use Rattle.children.specs.Children.{RouteSought, ChildDue, ChildMade}
 use Rattle.children.proofs.Keeping.{stretch-within, put-kept, recorded-kept, ready-still}
 use Rattle.children.proofs.Routing.{not-found, was-found}
 use Rattle.children.proofs.Seeking.{sum-in, sum-small}
@@ -56,7 +59,7 @@ module _ (task : Task) (bytes layers columns plans : List ℕ) (node carrier : �
     copy-place = rw long (below, inside)
 
     module _ (copied : List ℕ) (copy : copied ≡ paste plans (made * size) (take size (drop (node * size) plans)) size) where
-      copied-is : copied ≡ paste plans (made * planLength job) (take (planLength job) (drop (node * planLength job) plans)) (planLength job)
+      copied-is : copied ≡ copiedPlans job plans node made
       copied-is = rw long at copy
 
       pub copied-room : plansLength job (task .capacity) ≤ length copied
@@ -80,30 +83,53 @@ module _ (task : Task) (bytes layers columns plans : List ℕ) (node carrier : �
               (record { inside = due .room; small = small; long = due .sound .columns-long }, record { parent-fits = omega (arith, due .low, due .room); carrier-fits = omega (arith, due .inside); bar-fits = due .fits; sum-fits = omega arith })
 
           pub child-made : (after : List ℕ) → Recorded (task .capacity) columns made node carrier bar sum after → ChildMade task bytes node (record { carrier = carrier; bar = bar }) made columns plans after now
+          unfolding ChildWritten
           child-made after recorded =
               let (r, best) = was-found (routeOn task bytes columns node carrier bar) (due .found) in
-              let is : now ≡ putRoute job (paste plans (made * planLength job) (take (planLength job) (drop (node * planLength job) plans)) (planLength job)) made carrier (some r) = put ∙ ap (λ (l : List ℕ). putRoute job l made carrier (routeOn task bytes columns node carrier bar)) copied-is ∙ ap (putRoute job (paste plans (made * planLength job) (take (planLength job) (drop (node * planLength job) plans)) (planLength job)) made carrier) best in
+              let is : now ≡ putRoute job (copiedPlans job plans node made) made carrier (some r) = put ∙ ap (λ (l : List ℕ). putRoute job l made carrier (routeOn task bytes columns node carrier bar)) copied-is ∙ ap (putRoute job (copiedPlans job plans node made) made carrier) best in
               let sums = total ∙ sum-in task bytes (task .capacity) after now made in
               record {
                 columns-kept = recorded-kept (task .capacity) columns made node carrier bar sum after recorded;
                 plans-kept = rw is (now-keeps job (task .capacity) columns plans node carrier bar made (due .sound) (due .low) (due .room) (due .inside) (due .bars) r best);
                 grown = rw is (grown job (task .capacity) columns plans node carrier bar made (due .sound) (due .low) (due .room) (due .inside) (due .bars) r best sum after recorded (rw is at sums));
+                written = (put ∙ ap (λ (l : List ℕ). putRoute job l made carrier (routeOn task bytes columns node carrier bar)) copied-is, rw total at recorded);
               }
 
 -- ---- no child, no record, or a child that is due
 
 module _ (task : Task) (bytes columns plans layers layers' : List ℕ) (node carrier : ℕ) (bar : Bar) (found : Bool) (sought : RouteSought task bytes columns node carrier bar layers layers' found) where
-  pub layers-only : Kept task bytes columns plans layers columns plans layers'
+  abbrev b : Barred
+  b = record { carrier = carrier; bar = bar }
+
+  layers-only : Kept task bytes columns plans layers columns plans layers'
   layers-only = record { columns-kept = same-from _ columns; plans-kept = same-from _ plans; layers-kept = sought .layers-kept }
 
-  pub none-due : (made : ℕ) → found ≡ false → ChildFact (jobOn task bytes) (task .capacity) node (record { carrier = carrier; bar = bar }) made columns plans columns plans Nothing
-  none-due made e =
-      not-grown (jobOn task bytes) (task .capacity) columns plans node carrier bar made (not-found (routeOn task bytes columns node carrier bar) (sym e ∙ sought .told))
+  -- what `add_child` promises
+  abbrev Grew : ℕ → List ℕ → List ℕ → Grown → Type 0
+  Grew made columns' plans' g =
+      Kept task bytes columns plans layers columns' plans' layers'
+      × (ChildFact (jobOn task bytes) (task .capacity) node b made columns plans columns' plans' g × ChildTables task bytes node b made columns plans columns' plans' layers' g)
 
-  pub full-due : (made : ℕ) → found ≡ true → made ≡ task .capacity → ChildFact (jobOn task bytes) (task .capacity) node (record { carrier = carrier; bar = bar }) made columns plans columns plans Full
+  pub none-due : (made : ℕ) → found ≡ false → Grew made columns plans Nothing
+  unfolding ChildWritten
+  none-due made e = (
+    layers-only,
+    (not-grown (jobOn task bytes) (task .capacity) columns plans node carrier bar made (not-found (routeOn task bytes columns node carrier bar) (sym e ∙ sought .told)), record { sought = sought .sought; written = (refl, refl) }),
+  )
+
+  pub full-due : (made : ℕ) → found ≡ true → made ≡ task .capacity → Grew made columns plans Full
+  unfolding ChildWritten
   full-due made e f =
-      let (r, best) = was-found (routeOn task bytes columns node carrier bar) (sym e ∙ sought .told) in
-      no-record (jobOn task bytes) (task .capacity) columns plans node carrier bar made columns plans r best f
+      let (r, best) = was-found (routeOn task bytes columns node carrier bar) (sym e ∙ sought .told) in (
+        layers-only,
+        (no-record (jobOn task bytes) (task .capacity) columns plans node carrier bar made columns plans r best f, record { sought = sought .sought; written = (refl, refl) }),
+      )
+
+  pub child-done : (made : ℕ) (columns' plans' : List ℕ) → ChildMade task bytes node b made columns plans columns' plans' → Grew made columns' plans' Made
+  child-done made columns' plans' child = (
+    record { columns-kept = child .columns-kept; plans-kept = child .plans-kept; layers-kept = sought .layers-kept },
+    (child .grown, record { sought = sought .sought; written = child .written }),
+  )
 
   pub child-due : (made : ℕ) → Ready task bytes layers → Sound (jobOn task bytes) (task .capacity) columns plans made → node < made → carrier < task .team .count → BarFits bar → isBar bar ≡ true → found ≡ true → (made ≡ task .capacity → ⊥) → ChildDue task bytes layers' columns plans node carrier bar made
   child-due made ready sound low inside fits bars e room =

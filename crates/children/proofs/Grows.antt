@@ -7,7 +7,6 @@ use mathlib.Core.Bool.{true}
 use mathlib.Core.List.{List, [], _∷_, _++_}
 use mathlib.Core.Option.{some, none}
 use lib.ListN.{length, take, drop, set, length-take, length-drop}
-use lib.Seq.{paste}
 use Rattle.lists.specs.Lists.{only}
 use Rattle.job.specs.Job.{Job, planLength}
 use Rattle.routes.specs.Bars.{Barred}
@@ -25,7 +24,7 @@ use Rattle.tables.proofs.Live.{node-same}
 use Rattle.tables.proofs.Grown.{live-added, sound-added}
 use Rattle.children.specs.declared.Grown.the-variants.{Nothing, Made, Full}
 use Rattle.children.specs.Steps.{ChildFact}
-use Rattle.children.specs.Children.{putRoute}
+use Rattle.children.specs.Written.{putRoute, copiedPlans}
 use Rattle.children.proofs.Routing.{barred-route, best-long}
 use Rattle.children.proofs.Keeping.{stretch-within, copied-kept, put-kept}
 
@@ -50,7 +49,7 @@ module _ (job : Job) (capacity : ℕ) (columns plans : List ℕ) (x i : ℕ) (ba
 
   pub not-grown : (made : ℕ) → bestRoute job i (boundBy capacity columns x i bar) ≡ none → ChildFact job capacity x b made columns plans columns plans Nothing
   unfolding ChildFact
-  not-grown made e = (child-none e, refl, refl)
+  not-grown made e = child-none e
 
   pub no-record : (made : ℕ) (columns' plans' : List ℕ) (r : List ℕ) → bestRoute job i (boundBy capacity columns x i bar) ≡ some r → made ≡ capacity → ChildFact job capacity x b made columns plans columns' plans' Full
   unfolding ChildFact
@@ -61,7 +60,7 @@ module _ (job : Job) (capacity : ℕ) (columns plans : List ℕ) (x i : ℕ) (ba
   module _ (made : ℕ) (sound : Sound job capacity columns plans made) (low : x < made) (room : made < capacity) (inside : i < job .count) (bars : isBar bar ≡ true) (r : List ℕ) (best : bestRoute job i (boundBy capacity columns x i bar) ≡ some r) where
     -- the parent's stretch, copied
     abbrev copied : List ℕ
-    copied = paste plans (made * planLength job) (take (planLength job) (drop (x * planLength job) plans)) (planLength job)
+    copied = copiedPlans job plans x made
 
     abbrev now : List ℕ
     now = putRoute job copied made i (some r)

@@ -17,7 +17,7 @@ use Rattle.tables.specs.Post.{Recorded}
 use Rattle.lists.proofs.Parts.{part-within, written, written-length, written-above, paste-written}
 use Rattle.children.specs.declared.Task.{Task}
 use Rattle.children.specs.Steps.{Ready}
-use Rattle.children.specs.Children.{putRoute}
+use Rattle.children.specs.Written.{putRoute}
 use Rattle.children.proofs.Routing.{best-long}
 
 -- ---- tails
@@ -34,6 +34,21 @@ tail-kept n before after long tail =
 
 pub recorded-kept : (capacity : ℕ) (before : List ℕ) (x parent carrier : ℕ) (bar : Bar) (sum : ℕ) (after : List ℕ) → Recorded capacity before x parent carrier bar sum after → SameFrom (8 * capacity) before after
 recorded-kept capacity before x parent carrier bar sum after r = tail-kept (8 * capacity) before after (r .long) (r .tail)
+
+-- a record written over once more: only the second counts
+pub recorded-again : (capacity : ℕ) (before : List ℕ) (x parent carrier : ℕ) (bar : Bar) (sum : ℕ) (first : List ℕ) → Recorded capacity before x parent carrier bar sum first → (parent' carrier' : ℕ) (bar' : Bar) (sum' : ℕ) (second : List ℕ) → Recorded capacity first x parent' carrier' bar' sum' second → Recorded capacity before x parent' carrier' bar' sum' second
+recorded-again capacity before x parent carrier bar sum first p parent' carrier' bar' sum' second q =
+    record {
+      parent-is = q .parent-is;
+      carrier-is = q .carrier-is;
+      bar-is = q .bar-is;
+      code-is = q .code-is;
+      sum-is = q .sum-is;
+      opened = q .opened;
+      others = λ c y l n. q .others c y l n ∙ p .others c y l n;
+      long = q .long ∙ p .long;
+      tail = q .tail ∙ p .tail;
+    }
 
 written-kept : (n : ℕ) (xs : List ℕ) (a : ℕ) (ys : List ℕ) (k : ℕ) → length ys ≡ k → a + k ≤ n → n ≤ length xs → SameFrom n xs (written xs a ys k)
 written-kept n xs a ys k long inside room =

@@ -1,6 +1,10 @@
 pub mod Due
+pub mod FreeLoop
+pub mod FreeRoutes
 pub mod Grows
 pub mod Keeping
 pub mod Rooted
 pub mod Routing
 pub mod Seeking
+pub mod Settled
+pub mod Wrong

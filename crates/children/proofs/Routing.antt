@@ -20,7 +20,7 @@ use Rattle.records.proofs.Chain.{chain-root}
 use Rattle.marks.specs.Marks.{boundBy}
 use Rattle.layers.proofs.SeekLaws.{route-is-best, free-bar}
 use Rattle.tree.specs.Tree.{routeUnder}
-use Rattle.children.specs.Children.{isFound}
+use Rattle.children.specs.Written.{isFound}
 
 pub barred-route : (job : Job) (capacity : ℕ) (columns : List ℕ) (x i : ℕ) (bar : Bar) → routeUnder job (record { carrier = i; bar = bar } ∷ chainOf capacity columns x) i ≡ bestRoute job i (boundBy capacity columns x i bar)
 unfolding routeUnder boundBy

@@ -25,7 +25,8 @@ use Rattle.tables.proofs.Costs.{costs-at-most}
 use Rattle.tables.proofs.Live.{node-sum}
 use Rattle.children.specs.declared.Task.{Task}
 use Rattle.children.specs.Steps.{jobOn, Ready}
-use Rattle.children.specs.Children.{routeOn, SoughtIn, isFound, RouteSought, putRoute, sumIn}
+use Rattle.children.specs.Written.{routeOn, SoughtIn, isFound, putRoute, sumIn}
+use Rattle.children.specs.Children.{RouteSought}
 use Rattle.children.proofs.Keeping.{route-within}
 
 -- what every use of the layers asks

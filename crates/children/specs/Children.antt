@@ -1,20 +1,15 @@
 -- What the functions below `add_child` and `make_root` have done, said about the tables before and after. No reader has to believe
 -- these either.
-use Prim.Native.Nat.{ℕ, _+_, _*_, _<_}
+use Prim.Native.Nat.{ℕ, _<_}
 use mathlib.Core.Path.{_≡_}
 use mathlib.Core.Bool.{Bool, true, false}
-use mathlib.Core.List.{List, [], _++_}
-use mathlib.Core.Option.{Option, none, some}
-use lib.ListN.{getD, take, drop}
-use Rattle.lists.specs.Lists.{sumTo}
-use Rattle.job.specs.Job.{Job, planLength}
-use Rattle.routes.specs.Route.{cost, routeIn}
+use mathlib.Core.List.{List, []}
+use mathlib.Core.Option.{none, some}
+use Rattle.job.specs.Job.{Job}
 use Rattle.routes.specs.Bars.{Barred}
-use Rattle.routes.specs.Best.{bestRoute}
 use Rattle.routes.specs.declared.Bar.{Bar}
 use Rattle.records.specs.Columns.{isBar}
-use Rattle.marks.specs.Marks.{boundBy, SameFrom}
-use Rattle.layers.specs.Layers.{Filled}
+use Rattle.marks.specs.Marks.{SameFrom}
 use Rattle.tree.specs.Tree.{routeUnder, freeRoutes}
 use Rattle.tables.specs.State.{routesIn, stretchAt, Sound}
 use Rattle.tables.specs.Post.{BarFits}
@@ -22,39 +17,14 @@ use Rattle.tables.specs.Tables.{columnsLength, plansLength, layersLength}
 use Rattle.children.specs.declared.Task.{Task}
 use Rattle.children.specs.declared.Grown.the-variants.{Made}
 use Rattle.children.specs.Steps.{jobOn, Ready, ChildFact}
+use Rattle.children.specs.Written.{routeOn, SoughtIn, SoughtFree, isFound, putRoute, ChildWritten, rootPlans, freeCount, lastSought}
 
 -- ---- one route
-
--- the best route of a carrier at a node, with one new bar in front of those that bind it there
-abbrev pub routeOn : Task → List ℕ → List ℕ → ℕ → ℕ → Bar → Option (List ℕ)
-routeOn task bytes columns node carrier bar = bestRoute (jobOn task bytes) carrier (boundBy (task .capacity) columns node carrier bar)
-
--- the layers hold what is wanted to read it off
-abbrev pub SoughtIn : Task → List ℕ → List ℕ → ℕ → ℕ → Bar → List ℕ → Type 0
-SoughtIn task bytes columns node carrier bar layers =
-    Filled (jobOn task bytes .hall) (boundBy (task .capacity) columns node carrier bar) (getD (task .team .goals) carrier 0) (task .horizon) layers
-
-unfoldable pub isFound : Option (List ℕ) → Bool
-isFound none = false
-isFound (some r) = true
 
 pub record RouteSought (task : Task) (bytes columns : List ℕ) (node carrier : ℕ) (bar : Bar) (layers layers' : List ℕ) (found : Bool) : Type 0 where
   pub told : found ≡ isFound (routeOn task bytes columns node carrier bar)
   pub sought : SoughtIn task bytes columns node carrier bar layers'
   pub layers-kept : SameFrom (layersLength (jobOn task bytes)) layers layers'
-
--- the plans with a route, if there is one, written over that of carrier i of node x
-unfoldable pub putRoute : Job → List ℕ → ℕ → ℕ → Option (List ℕ) → List ℕ
-putRoute job plans x i none = plans
-putRoute job plans x i (some r) =
-    take (x * planLength job + i * (job .horizon + 1)) plans
-    ++ (r ++ drop (job .horizon + 1) (drop (x * planLength job + i * (job .horizon + 1)) plans))
-
--- the total of the costs of the routes in the stretch of node x
-unfoldable pub sumIn : Task → List ℕ → ℕ → ℕ
-sumIn task plans x =
-    sumTo (task .team .count)
-    (λ i. cost (getD (task .team .goals) i 0) (routeIn (task .horizon) (take (task .team .count * (task .horizon + 1)) (drop (x * (task .team .count * (task .horizon + 1))) plans)) i))
 
 -- ---- a child
 
@@ -74,6 +44,7 @@ pub record ChildMade (task : Task) (bytes : List ℕ) (node : ℕ) (b : Barred) 
   pub columns-kept : SameFrom (columnsLength (task .capacity)) columns columns'
   pub plans-kept : SameFrom (plansLength (jobOn task bytes) (task .capacity)) plans plans'
   pub grown : ChildFact (jobOn task bytes) (task .capacity) node b made columns plans columns' plans' Made
+  pub written : ChildWritten task bytes node b made columns plans columns' plans' Made
 
 -- ---- the root's routes
 
@@ -81,6 +52,7 @@ pub record ChildMade (task : Task) (bytes : List ℕ) (node : ℕ) (b : Barred) 
 pub record FreeRoute (task : Task) (bytes : List ℕ) (i : ℕ) (plans layers plans' layers' : List ℕ) (found : Bool) : Type 0 where
   pub told : found ≡ isFound (routeUnder (jobOn task bytes) [] i)
   pub put : plans' ≡ putRoute (jobOn task bytes) plans 0 i (routeUnder (jobOn task bytes) [] i)
+  pub sought : SoughtFree task bytes i layers'
   pub layers-kept : SameFrom (layersLength (jobOn task bytes)) layers layers'
 
 unfoldable pub FreeFact : Job → List ℕ → Bool → Type 0
@@ -89,5 +61,7 @@ FreeFact job plans' true = freeRoutes job 0 (job .count) ≡ some (routesIn job 
 
 pub record FreeRoutes (task : Task) (bytes plans layers plans' layers' : List ℕ) (found : Bool) : Type 0 where
   pub told : FreeFact (jobOn task bytes) plans' found
+  pub routes : plans' ≡ rootPlans (jobOn task bytes) plans (freeCount (jobOn task bytes))
+  pub sought : SoughtFree task bytes (lastSought (jobOn task bytes)) layers'
   pub plans-kept : SameFrom (plansLength (jobOn task bytes) (task .capacity)) plans plans'
   pub layers-kept : SameFrom (layersLength (jobOn task bytes)) layers layers'

@@ -1,2 +1,3 @@
 pub mod Children
 pub mod Steps
+pub mod Written

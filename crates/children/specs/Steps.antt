@@ -53,7 +53,7 @@ BarSet (Cross u v t) = (u < 65536) × (v < 65536) × (t < 65536)
 -- one child of node x with bar b, after rule 7
 unfoldable pub ChildFact : Job → ℕ → ℕ → Barred → ℕ → List ℕ → List ℕ → List ℕ → List ℕ → Grown → Type 0
 ChildFact job capacity x b made columns plans columns' plans' Nothing =
-    (child job (nodeAt job capacity columns plans x) b ≡ []) × (columns' ≡ columns) × (plans' ≡ plans)
+    child job (nodeAt job capacity columns plans x) b ≡ []
 ChildFact job capacity x b made columns plans columns' plans' Full =
     (made ≡ capacity) × (length (child job (nodeAt job capacity columns plans x) b) ≡ 1)
 ChildFact job capacity x b made columns plans columns' plans' Made =

@@ -11,7 +11,8 @@ ghost use Rattle.records.specs.Columns.{barAt, Falls};
 ghost use Rattle.tables.specs.State.{Sound};
 ghost use Rattle.tables.specs.Tables.{plansLength};
 ghost use Rattle.children.specs.Steps.{jobOn, Ready, Kept, BarSet, ChildFact, RootFact};
-ghost use Rattle.children.specs.Children.{routeOn, SoughtIn, RouteSought, putRoute, sumIn, ChildDue, ChildMade, FreeRoute, FreeRoutes};
+ghost use Rattle.children.specs.Written.{routeOn, SoughtIn, putRoute, sumIn, ChildTables, RootTables};
+ghost use Rattle.children.specs.Children.{RouteSought, ChildDue, ChildMade, FreeRoute, FreeRoutes};
 
 // An accepted job's numbers and carriers, and N: what a search works on beside the hall and the tables.
 pub struct Task {
@@ -161,6 +162,7 @@ pub fn add_child(
     requires { ⌜ Ready task (now hall) (now layers) ⌝ ∗ ⌜ Sound (jobOn task (now hall)) (task .capacity) (now columns) (now plans) made ⌝ ∗ ⌜ (node < made) × (carrier < task .team .count) ⌝ ∗ ⌜ BarSet bar ⌝ }
     ensures kept { λ r. ⌜ Kept task (now (hall .entry)) (now (columns .entry)) (now (plans .entry)) (now (layers .entry)) (now (columns .exit)) (now (plans .exit)) (now (layers .exit)) ⌝ }
     ensures grown { λ r. ⌜ ChildFact (jobOn task (now (hall .entry))) (task .capacity) node (record { carrier = carrier; bar = bar }) made (now (columns .entry)) (now (plans .entry)) (now (columns .exit)) (now (plans .exit)) r ⌝ }
+    ensures tables { λ r. ⌜ ChildTables task (now (hall .entry)) node (record { carrier = carrier; bar = bar }) made (now (columns .entry)) (now (plans .entry)) (now (columns .exit)) (now (plans .exit)) (now (layers .exit)) r ⌝ }
 {
     let found = has_route(hall, task, node, carrier, bar, columns, layers);
     if !found {
@@ -228,6 +230,7 @@ pub fn make_root(
     requires { ⌜ Ready task (now hall) (now layers) ⌝ ∗ ⌜ (8 * task .capacity ≤ length (now columns)) × (task .capacity * planLength (jobOn task (now hall)) ≤ length (now plans)) ⌝ }
     ensures kept { λ r. ⌜ Kept task (now (hall .entry)) (now (columns .entry)) (now (plans .entry)) (now (layers .entry)) (now (columns .exit)) (now (plans .exit)) (now (layers .exit)) ⌝ }
     ensures rooted { λ r. ⌜ RootFact (jobOn task (now (hall .entry))) (task .capacity) (now (columns .exit)) (now (plans .exit)) r ⌝ }
+    ensures tables { λ r. ⌜ RootTables task (now (hall .entry)) (now (columns .entry)) (now (plans .entry)) (now (columns .exit)) (now (plans .exit)) (now (layers .exit)) r ⌝ }
 {
     tables::write_record(columns, task.capacity, 0, 0, 0, Bar::Free, 0);
     let found = free_routes(hall, task, columns, plans, layers);

@@ -19,7 +19,7 @@ use Rattle.planner.specs.declared.End.the-variants.{Spent, Clear, Full a
 use Rattle.planner.specs.declared.Answer.{Answer}
 use Rattle.planner.specs.declared.Answer.the-variants.{Plan, NoPlan, Full as AnswerFull}
 use Rattle.planner.specs.Answer.{searched}
-use Rattle.children.specs.Children.{sumIn}
+use Rattle.children.specs.Written.{sumIn}
 use Rattle.children.specs.Steps.{jobOn, Ready, Kept}
 use Rattle.planner.specs.Steps.{jobIn, Placed, EndFact, EndPlaced, ToldFact, Cleared, RanFact}
 use Rattle.planner.proofs.Cells.{stretch-inside}

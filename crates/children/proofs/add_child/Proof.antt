@@ -1,7 +1,7 @@
 -- By the cases: no route, a route and no record for it, or a child that is due. Assumes nothing.
 use borrow.Author.Tests.{not-true, not-false}
 use Rattle.children.proofs.Keeping.{sound-falls}
-use Rattle.children.proofs.Due.{layers-only, none-due, full-due, child-due, set-fits, set-bars}
+use Rattle.children.proofs.Due.{none-due, full-due, child-done, child-due, set-fits, set-bars}
 use borrow.Author.Needs.{needs}
 use Rattle.children.proofs.add_child.Statement.{statement}
 use Rattle.children.proofs.add_child.Tie as tie
@@ -16,7 +16,7 @@ same-length-2 : tie.Need-same-length-2
 same-length-2 c = search needs
 
 returns : tie.Need-returns
-returns c = (layers-only (c .before .before .before .before .before .before .before .before .before .before .args .task) (c .before .before .before .before .before .before .before .before .before .before .args .hall .now) (c .before .before .before .before .before .before .before .before .before .before .args .columns .now) (c .before .before .before .before .before .before .before .before .before .before .args .plans .now) (c .before .before .before .before .before .before .before .before .before .before .args .layers .now) (c .before .before .before .has-route .last .1 .1 .1 .1 .1 .1 .0) (c .before .before .before .before .before .before .before .before .before .before .args .node) (c .before .before .before .before .before .before .before .before .before .before .args .carrier) (c .before .before .before .before .before .before .before .before .before .before .args .bar) (c .before .before .before .has-route .result) (c .before .before .before .has-route .ensures), none-due (c .before .before .before .before .before .before .before .before .before .before .args .task) (c .before .before .before .before .before .before .before .before .before .before .args .hall .now) (c .before .before .before .before .before .before .before .before .before .before .args .columns .now) (c .before .before .before .before .before .before .before .before .before .before .args .plans .now) (c .before .before .before .before .before .before .before .before .before .before .args .layers .now) (c .before .before .before .has-route .last .1 .1 .1 .1 .1 .1 .0) (c .before .before .before .before .before .before .before .before .before .before .args .node) (c .before .before .before .before .before .before .before .before .before .before .args .carrier) (c .before .before .before .before .before .before .before .before .before .before .args .bar) (c .before .before .before .has-route .result) (c .before .before .before .has-route .ensures) (c .before .before .before .before .before .before .before .before .before .before .args .made) (not-true (c .before .before .before .has-route .result) (c .if1 .taken)))
+returns c = none-due (c .before .before .before .before .before .before .before .before .before .before .args .task) (c .before .before .before .before .before .before .before .before .before .before .args .hall .now) (c .before .before .before .before .before .before .before .before .before .before .args .columns .now) (c .before .before .before .before .before .before .before .before .before .before .args .plans .now) (c .before .before .before .before .before .before .before .before .before .before .args .layers .now) (c .before .before .before .has-route .last .1 .1 .1 .1 .1 .1 .0) (c .before .before .before .before .before .before .before .before .before .before .args .node) (c .before .before .before .before .before .before .before .before .before .before .args .carrier) (c .before .before .before .before .before .before .before .before .before .before .args .bar) (c .before .before .before .has-route .result) (c .before .before .before .has-route .ensures) (c .before .before .before .before .before .before .before .before .before .before .args .made) (not-true (c .before .before .before .has-route .result) (c .if1 .taken))
 
 same-length-3 : tie.Need-same-length-3
 same-length-3 c = search needs
@@ -25,7 +25,7 @@ same-length-4 : tie.Need-same-length-4
 same-length-4 c = search needs
 
 returns-2 : tie.Need-returns-2
-returns-2 c = (layers-only (c .before .before .before .before .before .before .before .before .before .before .before .before .args .task) (c .before .before .before .before .before .before .before .before .before .before .before .before .args .hall .now) (c .before .before .before .before .before .before .before .before .before .before .before .before .args .columns .now) (c .before .before .before .before .before .before .before .before .before .before .before .before .args .plans .now) (c .before .before .before .before .before .before .before .before .before .before .before .before .args .layers .now) (c .before .before .before .before .before .has-route .last .1 .1 .1 .1 .1 .1 .0) (c .before .before .before .before .before .before .before .before .before .before .before .before .args .node) (c .before .before .before .before .before .before .before .before .before .before .before .before .args .carrier) (c .before .before .before .before .before .before .before .before .before .before .before .before .args .bar) (c .before .before .before .before .before .has-route .result) (c .before .before .before .before .before .has-route .ensures), full-due (c .before .before .before .before .before .before .before .before .before .before .before .before .args .task) (c .before .before .before .before .before .before .before .before .before .before .before .before .args .hall .now) (c .before .before .before .before .before .before .before .before .before .before .before .before .args .columns .now) (c .before .before .before .before .before .before .before .before .before .before .before .before .args .plans .now) (c .before .before .before .before .before .before .before .before .before .before .before .before .args .layers .now) (c .before .before .before .before .before .has-route .last .1 .1 .1 .1 .1 .1 .0) (c .before .before .before .before .before .before .before .before .before .before .before .before .args .node) (c .before .before .before .before .before .before .before .before .before .before .before .before .args .carrier) (c .before .before .before .before .before .before .before .before .before .before .before .before .args .bar) (c .before .before .before .before .before .has-route .result) (c .before .before .before .before .before .has-route .ensures) (c .before .before .before .before .before .before .before .before .before .before .before .before .args .made) (not-false (c .before .before .before .before .before .has-route .result) (c .before .before .if1 .left)) (c .if2 .taken))
+returns-2 c = full-due (c .before .before .before .before .before .before .before .before .before .before .before .before .args .task) (c .before .before .before .before .before .before .before .before .before .before .before .before .args .hall .now) (c .before .before .before .before .before .before .before .before .before .before .before .before .args .columns .now) (c .before .before .before .before .before .before .before .before .before .before .before .before .args .plans .now) (c .before .before .before .before .before .before .before .before .before .before .before .before .args .layers .now) (c .before .before .before .before .before .has-route .last .1 .1 .1 .1 .1 .1 .0) (c .before .before .before .before .before .before .before .before .before .before .before .before .args .node) (c .before .before .before .before .before .before .before .before .before .before .before .before .args .carrier) (c .before .before .before .before .before .before .before .before .before .before .before .before .args .bar) (c .before .before .before .before .before .has-route .result) (c .before .before .before .before .before .has-route .ensures) (c .before .before .before .before .before .before .before .before .before .before .before .before .args .made) (not-false (c .before .before .before .before .before .has-route .result) (c .before .before .if1 .left)) (c .if2 .taken)
 
 make-child-requires : tie.Need-make-child-requires
 make-child-requires c κs = child-due (c .before .before .before .before .before .before .before .before .before .before .before .before .before .before .before .args .task) (c .before .before .before .before .before .before .before .before .before .before .before .before .before .before .before .args .hall .now) (c .before .before .before .before .before .before .before .before .before .before .before .before .before .before .before .args .columns .now) (c .before .before .before .before .before .before .before .before .before .before .before .before .before .before .before .args .plans .now) (c .before .before .before .before .before .before .before .before .before .before .before .before .before .before .before .args .layers .now) (c .before .before .before .before .before .before .before .before .has-route .last .1 .1 .1 .1 .1 .1 .0) (c .before .before .before .before .before .before .before .before .before .before .before .before .before .before .before .args .node) (c .before .before .before .before .before .before .before .before .before .before .before .before .before .before .before .args .carrier) (c .before .before .before .before .before .before .before .before .before .before .before .before .before .before .before .args .bar) (c .before .before .before .before .before .before .before .before .has-route .result) (c .before .before .before .before .before .before .before .before .has-route .ensures) (c .before .before .before .before .before .before .before .before .before .before .before .before .before .before .before .args .made) (c .before .before .before .before .before .before .before .before .before .before .before .before .before .before .before .pre .0) (c .before .before .before .before .before .before .before .before .before .before .before .before .before .before .before .pre .1 .0) (c .before .before .before .before .before .before .before .before .before .before .before .before .before .before .before .pre .1 .1 .0 .0) (c .before .before .before .before .before .before .before .before .before .before .before .before .before .before .before .pre .1 .1 .0 .1) (set-fits (c .before .before .before .before .before .before .before .before .before .before .before .before .before .before .before .args .bar) (c .before .before .before .before .before .before .before .before .before .before .before .before .before .before .before .pre .1 .1 .1)) (set-bars (c .before .before .before .before .before .before .before .before .before .before .before .before .before .before .before .args .bar) (c .before .before .before .before .before .before .before .before .before .before .before .before .before .before .before .pre .1 .1 .1)) (not-false (c .before .before .before .before .before .before .before .before .has-route .result) (c .before .before .before .before .before .if1 .left)) (c .before .before .before .if2 .left)
@@ -40,7 +40,7 @@ same-length-7 : tie.Need-same-length-7
 same-length-7 c = search needs
 
 returns-3 : tie.Need-returns-3
-returns-3 c = search needs
+returns-3 c = child-done (c .before .before .before .before .before .before .before .before .before .before .before .before .before .before .before .before .before .before .before .before .args .task) (c .before .before .before .before .before .before .before .before .before .before .before .before .before .before .before .before .before .before .before .before .args .hall .now) (c .before .before .before .before .before .before .before .before .before .before .before .before .before .before .before .before .before .before .before .before .args .columns .now) (c .before .before .before .before .before .before .before .before .before .before .before .before .before .before .before .before .before .before .before .before .args .plans .now) (c .before .before .before .before .before .before .before .before .before .before .before .before .before .before .before .before .before .before .before .before .args .layers .now) (c .before .before .before .before .before .before .before .before .before .before .before .before .before .has-route .last .1 .1 .1 .1 .1 .1 .0) (c .before .before .before .before .before .before .before .before .before .before .before .before .before .before .before .before .before .before .before .before .args .node) (c .before .before .before .before .before .before .before .before .before .before .before .before .before .before .before .before .before .before .before .before .args .carrier) (c .before .before .before .before .before .before .before .before .before .before .before .before .before .before .before .before .before .before .before .before .args .bar) (c .before .before .before .before .before .before .before .before .before .before .before .before .before .has-route .result) (c .before .before .before .before .before .before .before .before .before .before .before .before .before .has-route .ensures) (c .before .before .before .before .before .before .before .before .before .before .before .before .before .before .before .before .before .before .before .before .args .made) (c .before .before .before .before .make-child .last .1 .1 .1 .1 .1 .1 .0) (c .before .before .before .before .make-child .last .1 .1 .1 .1 .1 .1 .1 .0) (c .before .before .before .before .make-child .ensures)
 
 pub add-child-spec : {M : Type 1} → statement M
 add-child-spec =

@@ -1,7 +1,7 @@
 -- Record 0 has no bar, so the route sought with no new bar is the one without bars. Assumes nothing.
 use borrow.Author.Tests.{not-true, not-false}
 use Rattle.children.proofs.Keeping.{ready-still, root-falls}
-use Rattle.children.proofs.Rooted.{none-free, one-free}
+use Rattle.children.proofs.FreeLoop.{none-free, one-free}
 use borrow.Author.Needs.{needs}
 use Rattle.children.proofs.free_route.Statement.{statement}
 use Rattle.children.proofs.free_route.Tie as tie

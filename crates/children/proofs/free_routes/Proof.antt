@@ -1,10 +1,10 @@
--- The loop's invariant: the first i carriers have a route without bars, it is written, and nothing past the tables' least lengths has
--- changed. Assumes nothing.
+-- The loop's invariant: the first i carriers have a route without bars, it is written, the layers hold the last one's levels, and nothing
+-- past the tables' least lengths has changed. Assumes nothing.
 use Prim.Native.Nat.{_-_, _≤_}
 use native.Mathlib.Omega.{arith}
 use borrow.Author.Tests.{not-true, not-false}
 use Rattle.children.proofs.Keeping.{ready-still}
-use Rattle.children.proofs.Rooted.{FreeSoFar, free-start, plans-still, layers-still, free-turn, free-stop, free-done}
+use Rattle.children.proofs.FreeLoop.{FreeSoFar, free-start, plans-still, layers-still, free-turn, free-stop, free-done}
 use Rattle.children.proofs.free_routes.Statement.{statement}
 use Rattle.children.proofs.free_routes.Tie as tie
 
@@ -45,7 +45,7 @@ same-length-4 : tie.Need-same-length-4 Inv-loop μ-loop
 same-length-4 c = c .before .loop .inv .1 .layers-kept .long
 
 returns-2 : tie.Need-returns-2 Inv-loop μ-loop
-returns-2 c = free-done (c .before .before .before .before .before .before .before .args .task) (c .before .before .before .before .before .before .before .args .hall .now) (c .before .before .before .before .before .before .before .args .plans .now) (c .before .before .before .before .before .before .before .args .layers .now) (c .before .loop .i) (c .before .loop .plans) (c .before .loop .layers) (omega arith) (c .before .loop .inv .1)
+returns-2 c = free-done (c .before .before .before .before .before .before .before .args .task) (c .before .before .before .before .before .before .before .args .hall .now) (c .before .before .before .before .before .before .before .args .plans .now) (c .before .before .before .before .before .before .before .args .layers .now) (c .before .before .before .before .before .before .before .pre .0 .count-least) (c .before .loop .i) (c .before .loop .plans) (c .before .loop .layers) (omega arith) (c .before .loop .inv .1)
 
 pub free-routes-spec : {M : Type 1} → statement M
 free-routes-spec =

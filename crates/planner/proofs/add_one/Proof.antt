@@ -1,7 +1,7 @@
 -- By what became of the child, one law for each. Assumes nothing.
 use borrow.Author.Needs.{needs}
 use Rattle.children.specs.Steps.{jobOn}
-use Rattle.planner.proofs.Children.{one-nothing, one-made, one-full}
+use Rattle.planner.proofs.Children.{nothing-changed, one-nothing, one-made, one-full}
 use Rattle.planner.proofs.add_one.Statement.{statement}
 use Rattle.planner.proofs.add_one.Tie as tie
 
@@ -37,7 +37,7 @@ returns c =
     let told = c .enum-told in (
       r .ensures .0,
       one-nothing (jobOn (a .task) (a .hall .now)) (a .task .capacity) (a .node) (a .made) (a .columns .now) (a .plans .now) (record { carrier = a .carrier; bar = a .bar })
-          (r .last .1 .1 .1 .1 .1 .1 .0) (r .last .1 .1 .1 .1 .1 .1 .1 .0) (r .result) (told .given .1) (pre .1 .0) (r .ensures .1),
+          (r .last .1 .1 .1 .1 .1 .1 .0) (r .last .1 .1 .1 .1 .1 .1 .1 .0) (r .result) (told .given .1) (pre .1 .0) (nothing-changed (a .task) (a .hall .now) (a .node) (record { carrier = a .carrier; bar = a .bar }) (a .made) (a .columns .now) (a .plans .now) (r .last .1 .1 .1 .1 .1 .1 .0) (r .last .1 .1 .1 .1 .1 .1 .1 .0) (r .result) (told .given .1) (r .ensures .1 .1 .written)) (r .ensures .1 .0),
     )
 
 same-length-4 : tie.Need-same-length-4
@@ -56,7 +56,7 @@ returns-2 c =
     let told = c .enum-told2 in (
       r .ensures .0,
       one-made (jobOn (a .task) (a .hall .now)) (a .task .capacity) (a .node) (a .made) (a .columns .now) (a .plans .now) (record { carrier = a .carrier; bar = a .bar })
-          (r .last .1 .1 .1 .1 .1 .1 .0) (r .last .1 .1 .1 .1 .1 .1 .1 .0) (r .result) (told .given .1) (r .ensures .1),
+          (r .last .1 .1 .1 .1 .1 .1 .0) (r .last .1 .1 .1 .1 .1 .1 .1 .0) (r .result) (told .given .1) (r .ensures .1 .0),
     )
 
 same-length-7 : tie.Need-same-length-7
@@ -75,7 +75,7 @@ returns-3 c =
     let told = c .enum-told3 in (
       r .ensures .0,
       one-full (jobOn (a .task) (a .hall .now)) (a .task .capacity) (a .node) (a .made) (a .columns .now) (a .plans .now) (record { carrier = a .carrier; bar = a .bar })
-          (r .last .1 .1 .1 .1 .1 .1 .0) (r .last .1 .1 .1 .1 .1 .1 .1 .0) (r .result) (told .given .1) (r .ensures .1),
+          (r .last .1 .1 .1 .1 .1 .1 .0) (r .last .1 .1 .1 .1 .1 .1 .1 .0) (r .result) (told .given .1) (r .ensures .1 .0),
     )
 
 pub add-one-spec : {M : Type 1} → statement M

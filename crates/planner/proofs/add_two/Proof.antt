@@ -4,7 +4,7 @@ use borrow.Author.Needs.{needs}
 use Rattle.children.specs.Steps.{jobOn}
 use Rattle.planner.specs.Steps.{oneOf, twoOf}
 use Rattle.planner.proofs.Tails.{kept-after, ready-after}
-use Rattle.planner.proofs.Children.{two-nothing, two-made, two-full, made-sound, nothing-sound}
+use Rattle.planner.proofs.Children.{nothing-changed, two-nothing, two-made, two-full, made-sound, nothing-sound}
 use Rattle.planner.proofs.add_two.Statement.{statement}
 use Rattle.planner.proofs.add_two.Tie as tie
 
@@ -22,7 +22,7 @@ add-one-requires c κs =
     let told = c .before .before .before .enum-told in (
       ready-after (a .task) (a .hall .now) (a .columns .now) (a .plans .now) (a .layers .now) (r .last .1 .1 .1 .1 .1 .1 .0) (r .last .1 .1 .1 .1 .1 .1 .1 .0) (r .last .1 .1 .1 .1 .1 .1 .1 .1 .0) (pre .0) (r .ensures .0),
       (
-        nothing-sound (jobOn (a .task) (a .hall .now)) (a .task .capacity) (a .node) (a .made) (a .columns .now) (a .plans .now) (oneOf (a .bars)) (r .last .1 .1 .1 .1 .1 .1 .0) (r .last .1 .1 .1 .1 .1 .1 .1 .0) (r .result) (told .given .1) (pre .1 .0) (r .ensures .1),
+        nothing-sound (jobOn (a .task) (a .hall .now)) (a .task .capacity) (a .node) (a .made) (a .columns .now) (a .plans .now) (r .last .1 .1 .1 .1 .1 .1 .0) (r .last .1 .1 .1 .1 .1 .1 .1 .0) (pre .1 .0) (nothing-changed (a .task) (a .hall .now) (a .node) (oneOf (a .bars)) (a .made) (a .columns .now) (a .plans .now) (r .last .1 .1 .1 .1 .1 .1 .0) (r .last .1 .1 .1 .1 .1 .1 .1 .0) (r .result) (told .given .1) (r .ensures .1 .1 .written)),
         ((pre .1 .1 .0, pre .1 .1 .1 .j-inside), pre .1 .1 .1 .two-fits),
       ),
     )
@@ -41,7 +41,7 @@ add-one-requires-2 c κs =
     let told = c .before .before .before .enum-told2 in (
       ready-after (a .task) (a .hall .now) (a .columns .now) (a .plans .now) (a .layers .now) (r .last .1 .1 .1 .1 .1 .1 .0) (r .last .1 .1 .1 .1 .1 .1 .1 .0) (r .last .1 .1 .1 .1 .1 .1 .1 .1 .0) (pre .0) (r .ensures .0),
       (
-        made-sound (jobOn (a .task) (a .hall .now)) (a .task .capacity) (a .node) (a .made) (a .columns .now) (a .plans .now) (oneOf (a .bars)) (r .last .1 .1 .1 .1 .1 .1 .0) (r .last .1 .1 .1 .1 .1 .1 .1 .0) (r .result) (told .given .1) (r .ensures .1),
+        made-sound (jobOn (a .task) (a .hall .now)) (a .task .capacity) (a .node) (a .made) (a .columns .now) (a .plans .now) (oneOf (a .bars)) (r .last .1 .1 .1 .1 .1 .1 .0) (r .last .1 .1 .1 .1 .1 .1 .1 .0) (r .result) (told .given .1) (r .ensures .1 .0),
         ((omega (arith, pre .1 .1 .0), pre .1 .1 .1 .j-inside), pre .1 .1 .1 .two-fits),
       ),
     )
@@ -65,7 +65,7 @@ returns c =
     let s = c .before .before .before .before .before .before .add-one in
     let told = c .before .before .before .before .before .before .before .before .before .before .enum-told in (
       kept-after (a .task) (a .hall .now) (a .columns .now) (a .plans .now) (a .layers .now) (r .last .1 .1 .1 .1 .1 .1 .0) (r .last .1 .1 .1 .1 .1 .1 .1 .0) (r .last .1 .1 .1 .1 .1 .1 .1 .1 .0) (s .last .1 .1 .1 .1 .1 .1 .0) (s .last .1 .1 .1 .1 .1 .1 .1 .0) (s .last .1 .1 .1 .1 .1 .1 .1 .1 .0) (r .ensures .0) (s .ensures .0),
-      two-nothing (jobOn (a .task) (a .hall .now)) (a .task .capacity) (a .node) (a .made) (a .columns .now) (a .plans .now) (oneOf (a .bars)) (twoOf (a .bars)) (r .last .1 .1 .1 .1 .1 .1 .0) (r .last .1 .1 .1 .1 .1 .1 .1 .0) (s .last .1 .1 .1 .1 .1 .1 .0) (s .last .1 .1 .1 .1 .1 .1 .1 .0) (r .result) (told .given .1) (s .result) (r .ensures .1) (s .ensures .1),
+      two-nothing (jobOn (a .task) (a .hall .now)) (a .task .capacity) (a .node) (a .made) (a .columns .now) (a .plans .now) (oneOf (a .bars)) (twoOf (a .bars)) (r .last .1 .1 .1 .1 .1 .1 .0) (r .last .1 .1 .1 .1 .1 .1 .1 .0) (s .last .1 .1 .1 .1 .1 .1 .0) (s .last .1 .1 .1 .1 .1 .1 .1 .0) (r .result) (told .given .1) (s .result) (nothing-changed (a .task) (a .hall .now) (a .node) (oneOf (a .bars)) (a .made) (a .columns .now) (a .plans .now) (r .last .1 .1 .1 .1 .1 .1 .0) (r .last .1 .1 .1 .1 .1 .1 .1 .0) (r .result) (told .given .1) (r .ensures .1 .1 .written)) (r .ensures .1 .0) (s .ensures .1),
     )
 
 same-length-4 : tie.Need-same-length-4
@@ -85,7 +85,7 @@ returns-2 c =
     let s = c .before .before .before .before .before .before .add-one2 in
     let told = c .before .before .before .before .before .before .before .before .before .before .enum-told2 in (
       kept-after (a .task) (a .hall .now) (a .columns .now) (a .plans .now) (a .layers .now) (r .last .1 .1 .1 .1 .1 .1 .0) (r .last .1 .1 .1 .1 .1 .1 .1 .0) (r .last .1 .1 .1 .1 .1 .1 .1 .1 .0) (s .last .1 .1 .1 .1 .1 .1 .0) (s .last .1 .1 .1 .1 .1 .1 .1 .0) (s .last .1 .1 .1 .1 .1 .1 .1 .1 .0) (r .ensures .0) (s .ensures .0),
-      two-made (jobOn (a .task) (a .hall .now)) (a .task .capacity) (a .node) (a .made) (a .columns .now) (a .plans .now) (oneOf (a .bars)) (twoOf (a .bars)) (r .last .1 .1 .1 .1 .1 .1 .0) (r .last .1 .1 .1 .1 .1 .1 .1 .0) (s .last .1 .1 .1 .1 .1 .1 .0) (s .last .1 .1 .1 .1 .1 .1 .1 .0) (r .result) (told .given .1) (s .result) (pre .1 .1 .0) (r .ensures .1) (s .ensures .1),
+      two-made (jobOn (a .task) (a .hall .now)) (a .task .capacity) (a .node) (a .made) (a .columns .now) (a .plans .now) (oneOf (a .bars)) (twoOf (a .bars)) (r .last .1 .1 .1 .1 .1 .1 .0) (r .last .1 .1 .1 .1 .1 .1 .1 .0) (s .last .1 .1 .1 .1 .1 .1 .0) (s .last .1 .1 .1 .1 .1 .1 .1 .0) (r .result) (told .given .1) (s .result) (pre .1 .1 .0) (r .ensures .1 .0) (s .ensures .1),
     )
 
 same-length-7 : tie.Need-same-length-7
@@ -102,7 +102,7 @@ returns-3 c =
     let a = c .before .before .before .before .before .before .before .before .before .before .before .before .before .before .before .before .args in
     let r = c .before .before .before .before .before .before .before .before .add-child in
     let told = c .enum-told3 in
-    (r .ensures .0, two-full (jobOn (a .task) (a .hall .now)) (a .task .capacity) (a .node) (a .made) (a .columns .now) (a .plans .now) (oneOf (a .bars)) (twoOf (a .bars)) (r .last .1 .1 .1 .1 .1 .1 .0) (r .last .1 .1 .1 .1 .1 .1 .1 .0) (r .result) (told .given .1) (r .ensures .1))
+    (r .ensures .0, two-full (jobOn (a .task) (a .hall .now)) (a .task .capacity) (a .node) (a .made) (a .columns .now) (a .plans .now) (oneOf (a .bars)) (twoOf (a .bars)) (r .last .1 .1 .1 .1 .1 .1 .0) (r .last .1 .1 .1 .1 .1 .1 .1 .0) (r .result) (told .given .1) (r .ensures .1 .0))
 
 pub add-two-spec : {M : Type 1} → statement M
 add-two-spec =

@@ -24,7 +24,7 @@ returns c =
     let a = c .before .before .before .before .before .before .before .before .before .before .before .before .before .before .before .args in
     let m = c .before .before .before .before .before .before .before .make-root in
     let if1 = c .if1 in
-    (m .ensures .0, tree-none (jobOn (a .task) (a .hall .now)) (a .task .capacity) (m .last .1 .1 .0) (m .last .1 .1 .1 .0) (m .last .1 .1 .0) (m .last .1 .1 .1 .0) (m .result) (not-true (m .result) (if1 .taken)) (m .ensures .1))
+    (m .ensures .0, tree-none (jobOn (a .task) (a .hall .now)) (a .task .capacity) (m .last .1 .1 .0) (m .last .1 .1 .1 .0) (m .last .1 .1 .0) (m .last .1 .1 .1 .0) (m .result) (not-true (m .result) (if1 .taken)) (m .ensures .1 .0))
 
 search-all-requires : tie.Need-search-all-requires
 search-all-requires c κs =
@@ -33,7 +33,7 @@ search-all-requires c κs =
     let m = c .before .before .before .before .before .before .before .before .before .before .make-root in
     let if1 = c .before .before .before .if1 in (
       ready-after (a .task) (a .hall .now) (a .columns .now) (a .plans .now) (a .layers .now) (m .last .1 .1 .0) (m .last .1 .1 .1 .0) (m .last .1 .1 .1 .1 .0) (pre .0) (m .ensures .0),
-      root-sound (jobOn (a .task) (a .hall .now)) (a .task .capacity) (m .last .1 .1 .0) (m .last .1 .1 .1 .0) (m .result) (not-false (m .result) (if1 .left)) (m .ensures .1),
+      root-sound (jobOn (a .task) (a .hall .now)) (a .task .capacity) (m .last .1 .1 .0) (m .last .1 .1 .1 .0) (m .result) (not-false (m .result) (if1 .left)) (m .ensures .1 .0),
     )
 
 same-length-4 : tie.Need-same-length-4
@@ -53,7 +53,7 @@ returns-2 c =
     let s = c .before .before .before .before .before .before .search-all in
     let if1 = c .before .before .before .before .before .before .before .before .before .before .if1 in (
       kept-after (a .task) (a .hall .now) (a .columns .now) (a .plans .now) (a .layers .now) (m .last .1 .1 .0) (m .last .1 .1 .1 .0) (m .last .1 .1 .1 .1 .0) (s .last .1 .1 .0) (s .last .1 .1 .1 .0) (s .last .1 .1 .1 .1 .0) (m .ensures .0) (s .ensures .0),
-      tree-ended (jobOn (a .task) (a .hall .now)) (a .task .capacity) (m .last .1 .1 .0) (m .last .1 .1 .1 .0) (s .last .1 .1 .0) (s .last .1 .1 .1 .0) (s .result) (m .result) (not-false (m .result) (if1 .left)) (pre .0 .capacity-least) (m .ensures .1) (s .ensures .1),
+      tree-ended (jobOn (a .task) (a .hall .now)) (a .task .capacity) (m .last .1 .1 .0) (m .last .1 .1 .1 .0) (s .last .1 .1 .0) (s .last .1 .1 .1 .0) (s .result) (m .result) (not-false (m .result) (if1 .left)) (pre .0 .capacity-least) (m .ensures .1 .0) (s .ensures .1),
     )
 
 pub grow-spec : {M : Type 1} → statement M

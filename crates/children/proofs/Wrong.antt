@@ -1,0 +1,94 @@
+-- Wrong answers of `stretch_of`, `sum_at` and `make_root`, each refuted at a named small task: what the contract says there is computed,
+-- and it is not what the wrong version gives. Assumes nothing.
+use Prim.Native.Nat.{ℕ, _+_, _*_}
+use native.Mathlib.Omega.{arith}
+use mathlib.Core.Path.{_≡_, refl, sym, ap, _∙_}
+use mathlib.Core.Bool.{Bool, true}
+use mathlib.Core.List.{List, [], _∷_}
+use lib.ListN.{length, getD}
+use Rattle.lists.specs.Lists.{range, sumTo, only, keep, anyOf, each}
+use Rattle.hall.specs.Hall.{isOpen}
+use Rattle.hall.specs.Moves.{onGrid, cellAt, landing, reachFrom, reach}
+use Rattle.routes.specs.Route.{routeIn, stepCost, cost}
+use Rattle.routes.specs.Bars.{barsFor, barsCell, barsWay, mayStand, mayTurn}
+use Rattle.routes.specs.Best.{cheaper, better, bestOf, inFront, bestWay, bestRoute}
+use Rattle.records.specs.Columns.{sumAt}
+use Rattle.tree.specs.Tree.{routeUnder, withRoute, freeRoutes, rootOf, root}
+use Rattle.children.specs.declared.Task.{Task}
+use Rattle.children.specs.Steps.{jobOn, RootFact}
+use Rattle.children.specs.Written.{putRoute, sumIn, rootPlans, oneMore, freeFrom, freeCount, rootSum, RootTables}
+
+-- a row of two open cells
+abbrev pub row : List ℕ
+row = 46 ∷ 46 ∷ []
+
+-- two carriers, 0→1 and 1→0, with a given H, and N 2
+abbrev pub exchange : ℕ → Task
+exchange h =
+    record {
+      width = 2;
+      height = 1;
+      delay = 0;
+      horizon = h;
+      capacity = 2;
+      team = record { starts = 0 ∷ 1 ∷ 0 ∷ 0 ∷ 0 ∷ 0 ∷ 0 ∷ 0 ∷ []; goals = 1 ∷ 0 ∷ 0 ∷ 0 ∷ 0 ∷ 0 ∷ 0 ∷ 0 ∷ []; count = 2 };
+    }
+
+-- ---- the length of a stretch
+
+pub stretch-of-one-step-short : (r : ℕ) → r ≡ exchange 1 .team .count * (exchange 1 .horizon + 1) → r ≡ exchange 1 .team .count * exchange 1 .horizon → ⊥
+stretch-of-one-step-short r e wrong = omega (arith, e, wrong)
+
+pub stretch-of-one-carrier : (r : ℕ) → r ≡ exchange 1 .team .count * (exchange 1 .horizon + 1) → r ≡ exchange 1 .horizon + 1 → ⊥
+stretch-of-one-carrier r e wrong = omega (arith, e, wrong)
+
+-- ---- the sum of a node
+
+-- node 0 has the routes 0 1 and 1 0, node 1 both carriers on their goals
+abbrev pub twoNodes : List ℕ
+twoNodes = 0 ∷ 1 ∷ 1 ∷ 0 ∷ 1 ∷ 1 ∷ 0 ∷ 0 ∷ []
+
+root-sum : sumIn (exchange 1) twoNodes 0 ≡ 2
+unfolding sumIn sumTo routeIn cost stepCost
+root-sum = refl
+
+next-sum : sumIn (exchange 1) twoNodes 1 ≡ 0
+unfolding sumIn sumTo routeIn cost stepCost
+next-sum = refl
+
+pub sum-at-of-the-root : (r : ℕ) → r ≡ sumIn (exchange 1) twoNodes 1 → r ≡ sumIn (exchange 1) twoNodes 0 → ⊥
+sum-at-of-the-root r e wrong = omega (arith, e ∙ next-sum, wrong ∙ root-sum)
+
+pub sum-at-last-carrier-left-out : (r : ℕ) → r ≡ sumIn (exchange 1) twoNodes 0 → r ≡ cost 1 (routeIn 1 twoNodes 0) → ⊥
+unfolding routeIn cost stepCost
+sum-at-last-carrier-left-out r e wrong = omega (arith, e ∙ root-sum, wrong)
+
+-- ---- the root
+
+-- with H 0 no carrier reaches its goal
+no-root : root (jobOn (exchange 0) row) ≡ []
+unfolding range only keep anyOf each isOpen onGrid cellAt landing reachFrom reach barsFor barsCell barsWay mayStand mayTurn cheaper better bestOf inFront bestWay bestRoute routeUnder withRoute freeRoutes rootOf root
+no-root = refl
+
+pub make-root-without-routes : (columns' plans' : List ℕ) → RootFact (jobOn (exchange 0) row) 2 columns' plans' true → ⊥
+unfolding RootFact
+make-root-without-routes columns' plans' f = omega (arith, f .2, ap length no-root)
+
+-- with H 1 both do; the plans lent have room for two nodes
+abbrev pub sevens : List ℕ
+sevens = 7 ∷ 7 ∷ 7 ∷ 7 ∷ 7 ∷ 7 ∷ 7 ∷ 7 ∷ []
+
+root-routes : rootPlans (jobOn (exchange 1) row) sevens (freeCount (jobOn (exchange 1) row)) ≡ 0 ∷ 1 ∷ 1 ∷ 0 ∷ 7 ∷ 7 ∷ 7 ∷ 7 ∷ []
+unfolding range only keep anyOf each isOpen onGrid cellAt landing reachFrom reach stepCost cost barsFor barsCell barsWay mayStand mayTurn cheaper better bestOf inFront bestWay bestRoute routeUnder putRoute rootPlans oneMore freeFrom
+root-routes = refl
+
+pub make-root-plans-untouched : (columns columns' plans' layers' : List ℕ) (made : Bool) → RootTables (exchange 1) row columns sevens columns' plans' layers' made → plans' ≡ sevens → ⊥
+make-root-plans-untouched columns columns' plans' layers' made tables wrong =
+    let z : _≡_ {A = ℕ} 7 0 = ap (λ (l : List ℕ). getD l 0 9) (sym wrong ∙ tables .routes ∙ root-routes) in
+    omega arith
+
+pub make-root-sum-left-at-zero : (columns columns' plans' layers' : List ℕ) → RootTables (exchange 1) row columns sevens columns' plans' layers' true → sumAt 2 columns' 0 ≡ 0 → ⊥
+unfolding rootSum sumIn sumTo routeIn cost stepCost
+make-root-sum-left-at-zero columns columns' plans' layers' tables wrong =
+    let two : sumIn (exchange 1) plans' 0 ≡ 2 = ap (λ (l : List ℕ). sumIn (exchange 1) l 0) (tables .routes ∙ root-routes) in
+    omega (arith, wrong, tables .written .sum-is, two)
