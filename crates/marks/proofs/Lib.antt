@@ -6,3 +6,4 @@ pub mod OneMove
 pub mod Places
 pub mod Settled
 pub mod Stays
+pub mod Wrong
