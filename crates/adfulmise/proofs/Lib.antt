@@ -1,3 +1,4 @@
 pub mod LentLaws
 pub mod Reading
 pub mod Settled
+pub mod Wrong

@@ -28,7 +28,7 @@ printed-hall : bodyOf printedBook 1 ≡ 3 ∷ 3 ∷ nine
 unfolding bodyOf askedVerdict ifGood noKind bookVerdict refuseIf noContents wrongKinds wrongBodies wrongLengths entryKind entryOffset entryLength entryBody lowHigh
 printed-hall = refl
 
-printed-carriers : bodyOf printedBook 2 ≡ 3 ∷ 5 ∷ 1 ∷ 7 ∷ []
+pub printed-carriers : bodyOf printedBook 2 ≡ 3 ∷ 5 ∷ 1 ∷ 7 ∷ []
 unfolding bodyOf askedVerdict ifGood noKind bookVerdict refuseIf noContents wrongKinds wrongBodies wrongLengths entryKind entryOffset entryLength entryBody lowHigh
 printed-carriers = refl
 

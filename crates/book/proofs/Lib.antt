@@ -5,3 +5,4 @@ pub mod Held
 pub mod Lengths
 pub mod Settled
 pub mod Verdicts
+pub mod Wrong

@@ -1,1 +1,3 @@
 pub mod Forms
+pub mod Padded
+pub mod Wrong

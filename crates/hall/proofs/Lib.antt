@@ -3,3 +3,4 @@ pub mod MoveTable
 pub mod Reach
 pub mod RightHall
 pub mod Settled
+pub mod Wrong

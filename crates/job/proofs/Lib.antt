@@ -1,3 +1,4 @@
 pub mod Accepted
 pub mod JobCode
 pub mod Settled
+pub mod Wrong

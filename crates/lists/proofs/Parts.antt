@@ -6,7 +6,7 @@ use native.Mathlib.Nat.{suc-mul, mul-le-mul-right}
 use mathlib.Core.Path.{_≡_, refl, sym, ap, _∙_}
 use mathlib.Core.List.{List, [], _∷_, _++_, append-assoc}
 use lib.Arith.{digits-div, digits-mod}
-use lib.ListN.{length, getD, take, drop, length-append, length-take, length-drop}
+use lib.ListN.{length, getD, take, drop, replicate, length-append, length-take, length-drop}
 use lib.Seq.{paste, take-take, take-all, take-at, take-nil, drop-drop, drop-at, length-take-le}
 
 -- ---- a list by its entries
@@ -16,6 +16,14 @@ same-entries [] [] e h = refl
 same-entries [] (y ∷ ys) e h = absurd (omega arith)
 same-entries (x ∷ xs) [] e h = absurd (omega arith)
 same-entries (x ∷ xs) (y ∷ ys) e h = rw (h 0) (ap (λ zs. y ∷ zs) (same-entries xs ys (omega arith) (λ i. h (suc i))))
+
+-- zeros at the end are what is read past it
+pub zeros-past-the-end : (xs : List ℕ) (n i : ℕ) → getD (xs ++ replicate n 0) i 0 ≡ getD xs i 0
+zeros-past-the-end [] zero i = refl
+zeros-past-the-end [] (suc n) zero = refl
+zeros-past-the-end [] (suc n) (suc i) = zeros-past-the-end [] n i
+zeros-past-the-end (x ∷ xs) n zero = refl
+zeros-past-the-end (x ∷ xs) n (suc i) = zeros-past-the-end xs n i
 
 -- ---- a part more within n parts
 

@@ -7,3 +7,4 @@ pub mod OneMove
 pub mod Places
 pub mod Settled
 pub mod Stays
+pub mod Wrong

@@ -6,3 +6,4 @@ pub mod Records
 pub mod Settled
 pub mod Stretches
 pub mod Taking
+pub mod Wrong

@@ -1,0 +1,47 @@
+-- Wrong answers that the reader's contracts rule out. `reader_answer` and `judge_asked` promise one thing of a book and a kind,
+-- `reader_body` and `body` another, so each law speaks of two functions. The book is the one that document 01 prints. Assumes nothing.
+use Prim.Native.Nat.{ℕ}
+use native.Mathlib.Omega.{arith}
+use mathlib.Core.Path.{_≡_, sym, ap, _∙_}
+use mathlib.Core.List.{List, [], _∷_}
+use lib.ListN.{getD, length}
+use Rattle.lists.specs.Lists.{refuseIf}
+use Rattle.book.specs.declared.BookVerdict.the-variants.{WrongKinds, WrongBodies, NoKind}
+use Rattle.book.specs.Book.{bookNumber, noContents, bookVerdict, noKind, ifGood, askedVerdict, bodyOf}
+use Rattle.book.proofs.Example.{printedBook, printed-good, printed-carriers}
+use Rattle.book.proofs.Verdicts.{asked-kind, asked-three, refused-empty}
+
+-- ---- book_number
+
+-- the refusals counted from 10
+pub counted-from-ten : 11 ≡ bookNumber WrongKinds → ⊥
+counted-from-ten e = let z : _≡_ {A = ℕ} 11 12 = e in omega arith
+
+-- 14 for bodies that do not follow one another
+pub bodies-as-lengths : 14 ≡ bookNumber WrongBodies → ⊥
+bodies-as-lengths e = let z : _≡_ {A = ℕ} 14 13 = e in omega arith
+
+-- ---- reader_answer and judge_asked
+
+-- 15 before 11, of an empty book
+pub kind-before-contents : NoKind ≡ askedVerdict [] 9 → ⊥
+unfolding askedVerdict ifGood bookVerdict refuseIf noContents
+kind-before-contents e = let z : _≡_ {A = ℕ} 15 11 = ap bookNumber e in omega arith
+
+-- kinds counted from 0: the last one refused
+pub last-kind-refused : NoKind ≡ askedVerdict printedBook 3 → ⊥
+last-kind-refused e = let z : _≡_ {A = ℕ} 15 0 = ap bookNumber (e ∙ asked-three printedBook 3 printed-good (omega arith) (omega arith)) in omega arith
+
+-- ---- reader_body and body
+
+-- kinds counted from 0: the limits for the carriers
+pub limits-for-carriers : 0 ∷ 4 ∷ [] ≡ bodyOf printedBook 2 → ⊥
+limits-for-carriers e = let z : _≡_ {A = ℕ} 0 3 = ap (λ (xs : List ℕ). getD xs 0 9) (e ∙ printed-carriers) in omega arith
+
+-- the last body for any kind above 3
+pub last-body-for-no-kind : 0 ∷ 4 ∷ [] ≡ bodyOf printedBook 4 → ⊥
+unfolding refuseIf noKind
+last-body-for-no-kind e =
+    let refused : askedVerdict printedBook 4 ≡ NoKind = sym (asked-kind printedBook 4 printed-good) in
+    let empty : bodyOf printedBook 4 ≡ [] = refused-empty printedBook 4 (λ good. let z : _≡_ {A = ℕ} 0 15 = ap bookNumber (sym good ∙ refused) in omega arith) in
+    let z : _≡_ {A = ℕ} 2 0 = ap length (e ∙ empty) in omega arith
