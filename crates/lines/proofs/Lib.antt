@@ -1,3 +1,7 @@
+pub mod Answers
+pub mod Held
 pub mod LinesLaws
 pub mod PrintedLaws
 pub mod Settled
+pub mod Small
+pub mod Whole
