@@ -1,4 +1,5 @@
 pub mod Answers
+pub mod Fits
 pub mod Held
 pub mod LinesLaws
 pub mod PrintedLaws
