@@ -1,4 +1,5 @@
 pub mod Answers
+pub mod Example
 pub mod Fits
 pub mod Held
 pub mod LinesLaws
@@ -6,3 +7,4 @@ pub mod PrintedLaws
 pub mod Settled
 pub mod Small
 pub mod Whole
+pub mod Wrong
