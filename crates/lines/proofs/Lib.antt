@@ -1,3 +1,10 @@
+pub mod Answers
+pub mod Example
+pub mod Fits
+pub mod Held
 pub mod LinesLaws
 pub mod PrintedLaws
 pub mod Settled
+pub mod Small
+pub mod Whole
+pub mod Wrong

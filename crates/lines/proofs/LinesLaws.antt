@@ -97,11 +97,16 @@ unfolding holdsNoPlan
 team-short p team h output few soon short =
     no-plan p team h output (simp (le-ltb 8 (team .count) few, le-ltb 63 h soon, lt-ltb (length output) (team .count * (h + 1)) short))
 
+pub holds-plan : (team : Team) (h : ℕ) (output : List ℕ) → team .count ≤ 8 → h ≤ 63 → team .count * (h + 1) ≤ length output → holdsNoPlan team h output ≡ false
+unfolding holdsNoPlan
+holds-plan team h output few soon long = simp (le-ltb 8 (team .count) few, le-ltb 63 h soon, le-ltb (length output) (team .count * (h + 1)) long)
+
+pub plan-lines : (team : Team) (h : ℕ) (output : List ℕ) → holdsNoPlan team h output ≡ false → carriersText team h output ≡ carrierLines team h output (team .count)
+unfolding carriersText
+plan-lines team h output right = rw (right, carriersText)
+
 pub team-put : (p q : Page) (team : Team) (h : ℕ) (output : List ℕ) → team .count ≤ 8 → h ≤ 63 → team .count * (h + 1) ≤ length output → q ≡ put p (carrierLines team h output (team .count)) → q ≡ put p (carriersText team h output)
-unfolding holdsNoPlan carriersText
-team-put p q team h output few soon long e =
-    let right : holdsNoPlan team h output ≡ false = simp (le-ltb 8 (team .count) few, le-ltb 63 h soon, le-ltb (length output) (team .count * (h + 1)) long) in
-    rw (right, carriersText) e
+team-put p q team h output few soon long e = rw (plan-lines team h output (holds-plan team h output few soon long)) e
 
 -- the code multiplies at most 8 by at most 64
 pub product-small : (m h : ℕ) → m ≤ 8 → h ≤ 63 → m * (h + 1) ≤ 512
@@ -111,38 +116,38 @@ product-small m h few soon = le-trans (mul-le-mul few (le-refl (h + 1))) (omega 
 
 pub plan-put : (p q r s : Page) (told : Told) (team : Team) (h : ℕ) (output : List ℕ)
     → q ≡ put p (numberLine sumWord (told .sum)) → r ≡ put q (numberLine recordsWord (told .records)) → s ≡ put r (carriersText team h output)
-    → s ≡ put p (planText told team h output)
+    → s ≡ put p (planText told (carriersText team h output))
 unfolding planText
 plan-put p q r s told team h output e f g = simp put-append cc
 
 module _ (p q : Page) (told : Told) (team : Team) (h : ℕ) (output : List ℕ) where
-  pub rest-0 : told .number ≡ 0 → q ≡ put p (planText told team h output) → q ≡ put p (restText told team h output)
+  pub rest-0 : told .number ≡ 0 → q ≡ put p (planText told (carriersText team h output)) → q ≡ put p (restText told (carriersText team h output))
   unfolding restText planText
   rest-0 is e = rw (is, restText) e
 
-  pub rest-5 : told .number ≡ 5 → q ≡ put p (numberLine carrierWord (told .carrier)) → q ≡ put p (restText told team h output)
+  pub rest-5 : told .number ≡ 5 → q ≡ put p (numberLine carrierWord (told .carrier)) → q ≡ put p (restText told (carriersText team h output))
   unfolding restText
   rest-5 is e = rw (is, restText) e
 
-  pub rest-6 : told .number ≡ 6 → q ≡ put p (pairLine (told .carrier) (told .other)) → q ≡ put p (restText told team h output)
+  pub rest-6 : told .number ≡ 6 → q ≡ put p (pairLine (told .carrier) (told .other)) → q ≡ put p (restText told (carriersText team h output))
   unfolding restText
   rest-6 is e = rw (is, restText) e
 
-  pub rest-8 : told .number ≡ 8 → q ≡ put p (numberLine recordsWord (told .records)) → q ≡ put p (restText told team h output)
+  pub rest-8 : told .number ≡ 8 → q ≡ put p (numberLine recordsWord (told .records)) → q ≡ put p (restText told (carriersText team h output))
   unfolding restText
   rest-8 is e = rw (is, restText) e
 
-  pub rest-9 : told .number ≡ 9 → q ≡ put p (numberLine recordsWord (told .records)) → q ≡ put p (restText told team h output)
+  pub rest-9 : told .number ≡ 9 → q ≡ put p (numberLine recordsWord (told .records)) → q ≡ put p (restText told (carriersText team h output))
   unfolding restText
   rest-9 is e = rw (is, restText) e
 
 pub rest-none : (p : Page) (told : Told) (team : Team) (h : ℕ) (output : List ℕ)
     → (told .number ≡ 0 → ⊥) → (told .number ≡ 5 → ⊥) → (told .number ≡ 6 → ⊥) → (told .number ≡ 8 → ⊥) → (told .number ≡ 9 → ⊥)
-    → p ≡ put p (restText told team h output)
+    → p ≡ put p (restText told (carriersText team h output))
 unfolding put restText
 rest-none p told team h output n0 n5 n6 n8 n9 =
     simp (ne-eqb (told .number) 0 n0, ne-eqb (told .number) 5 n5, ne-eqb (told .number) 6 n6, ne-eqb (told .number) 8 n8, ne-eqb (told .number) 9 n9, restText)
 
-pub told-put : (p q r : Page) (told : Told) (team : Team) (h : ℕ) (output : List ℕ) → q ≡ put p (numberLine answerWord (told .number)) → r ≡ put q (restText told team h output) → r ≡ put p (toldText told team h output)
+pub told-put : (p q r : Page) (told : Told) (team : Team) (h : ℕ) (output : List ℕ) → q ≡ put p (numberLine answerWord (told .number)) → r ≡ put q (restText told (carriersText team h output)) → r ≡ put p (toldText told (carriersText team h output))
 unfolding toldText
 told-put p q r told team h output e f = simp put-append cc

@@ -21,8 +21,9 @@ use Rattle.planner.specs.Post.{Planned}
 use Rattle.planner.specs.declared.Answer.{Answer}
 use Rattle.text.specs.Text.{Page, page, put}
 use Rattle.text.proofs.TextLaws.{put-kept, put-within}
-use Rattle.lines.specs.Lines.{answerWord, numberLine, toldText}
+use Rattle.lines.specs.Lines.{answerWord, numberLine, carriersText, toldText}
 use Rattle.lines.specs.Printed.{teamIn, jobIn, resultText, bookText, bookTables, Printed}
+use Rattle.lines.proofs.Held.{plan-held, told-held}
 
 -- a text put from the start of a buffer ends inside it
 pub inside-of : {r : ℕ} {given : List ℕ} (lent text : List ℕ) → page given r ≡ put (page lent 0) text → r ≤ length given
@@ -55,22 +56,24 @@ module _ (book : List ℕ) where
       ∙ ap (λ (x : ℕ). jobOf (widthIn (bodyOf book 1)) (heightIn (bodyOf book 1)) (hallIn (bodyOf book 1)) (teamIn book) x h) e5
       ∙ ap (λ (x : ℕ). jobOf (widthIn (bodyOf book 1)) (heightIn (bodyOf book 1)) (hallIn (bodyOf book 1)) (teamIn book) (delayIn (bodyOf book 3)) x) e6
 
-  text-same : (result : Result) (answer : Answer) (after : Tables) (team : Team) (h : ℕ)
-      → answer ≡ result .answer → after ≡ result .tables → team ≡ teamIn book → h ≡ horizonIn (bodyOf book 3)
-      → toldText (answerTold answer) team h (after .output) ≡ resultText book result
+  text-same : (n : ℕ) (before : Tables) (answer : Answer) (after : Tables) (team : Team) (h : ℕ)
+      → answer ≡ planned (jobIn book) n before .answer → after ≡ planned (jobIn book) n before .tables → team ≡ teamIn book → h ≡ horizonIn (bodyOf book 3)
+      → toldText (answerTold answer) (carriersText team h (after .output)) ≡ resultText book (planned (jobIn book) n before)
   unfolding resultText
-  text-same result answer after team h e1 e2 e3 e4 =
-      ap (λ (x : Answer). toldText (answerTold x) team h (after .output)) e1
-      ∙ ap (λ (x : Tables). toldText (answerTold (result .answer)) team h (x .output)) e2
-      ∙ ap (λ (x : Team). toldText (answerTold (result .answer)) x h (result .tables .output)) e3
-      ∙ ap (λ (x : ℕ). toldText (answerTold (result .answer)) (teamIn book) x (result .tables .output)) e4
+  text-same n before answer after team h e1 e2 e3 e4 =
+      let result : Result = planned (jobIn book) n before in
+      ap (λ (x : Answer). toldText (answerTold x) (carriersText team h (after .output))) e1
+      ∙ ap (λ (x : Tables). toldText (answerTold (result .answer)) (carriersText team h (x .output))) e2
+      ∙ ap (λ (x : Team). toldText (answerTold (result .answer)) (carriersText x h (result .tables .output))) e3
+      ∙ ap (λ (x : ℕ). toldText (answerTold (result .answer)) (carriersText (teamIn book) x (result .tables .output))) e4
+      ∙ told-held (answerTold (result .answer)) (teamIn book) (horizonIn (bodyOf book 3)) (result .tables .output) (plan-held book n before)
 
   pub job-printed : {r : ℕ} {after : Tables} {given : List ℕ} (n : ℕ) (before : Tables) (lent : List ℕ)
       (hall carriers limits bytes : List ℕ) (team : Team) (width height k h : ℕ) (answer : Answer)
       → hall ≡ bodyOf book 1 → carriers ≡ bodyOf book 2 → team ≡ bytesTeam carriers → limits ≡ bodyOf book 3
       → width ≡ getD hall 0 0 → height ≡ getD hall 1 0 → k ≡ getD limits 0 0 → h ≡ getD limits 1 0 → bytes ≡ hallIn hall
       → Planned (jobOf width height bytes team k h) n before answer after
-      → page given r ≡ put (page lent 0) (toldText (answerTold answer) team h (after .output))
+      → page given r ≡ put (page lent 0) (toldText (answerTold answer) (carriersText team h (after .output)))
       → Printed (resultText book (planned (jobIn book) n before)) (planned (jobIn book) n before .tables) lent r after given
   unfolding widthIn heightIn delayIn horizonIn
   job-printed {r} {after} {given} n before lent hall carriers limits bytes team width height k h answer b1 b2 isTeam b3 w hh kk ll bs made lines =
@@ -83,8 +86,8 @@ module _ (book : List ℕ) where
       let answer-is : answer ≡ planned (jobIn book) n before .answer = made .told ∙ ap (λ (x : Job). planned x n before .answer) job-is in
       let tables-are : after ≡ planned (jobIn book) n before .tables = made .tables ∙ ap (λ (x : Job). planned x n before .tables) job-is in
       record {
-        printed = lines ∙ ap (put (page lent 0)) (text-same (planned (jobIn book) n before) answer after team h answer-is tables-are team-is horizon-is);
-        inside = inside-of lent (toldText (answerTold answer) team h (after .output)) lines;
+        printed = lines ∙ ap (put (page lent 0)) (text-same n before answer after team h answer-is tables-are team-is horizon-is);
+        inside = inside-of lent (toldText (answerTold answer) (carriersText team h (after .output))) lines;
         settled = tables-are;
       }
 

@@ -69,25 +69,26 @@ unfoldable pub carrierLines : Team → ℕ → List ℕ → ℕ → List ℕ
 carrierLines team h output zero = []
 carrierLines team h output (suc n) = carrierLines team h output n ++ carrierLine n (getD (team .goals) n 0) (routeIn h output n)
 
--- no plan of the team stands in the output: the planner has answered 0 only where this is false
-unfoldable pub holdsNoPlan : Team → ℕ → List ℕ → Bool
-holdsNoPlan team h output = ltb 8 (team .count) || ltb 63 h || ltb (length output) (team .count * (h + 1))
-
-unfoldable pub carriersText : Team → ℕ → List ℕ → List ℕ
-carriersText team h output = cond (holdsNoPlan team h output) [] (carrierLines team h output (team .count))
-
--- 'For 0, then `sum`, `records`, and for each carrier'
-unfoldable pub planText : Told → Team → ℕ → List ℕ → List ℕ
-planText told team h output = numberLine sumWord (told .sum) ++ numberLine recordsWord (told .records) ++ carriersText team h output
+-- 'For 0, then `sum`, `records`, and for each carrier': `carriers` are the lines of the carriers
+unfoldable pub planText : Told → List ℕ → List ℕ
+planText told carriers = numberLine sumWord (told .sum) ++ numberLine recordsWord (told .records) ++ carriers
 
 -- what follows the first line, by the number
-unfoldable pub restText : Told → Team → ℕ → List ℕ → List ℕ
-restText told team h output =
-    cond (eqb (told .number) 0) (planText told team h output)
+unfoldable pub restText : Told → List ℕ → List ℕ
+restText told carriers =
+    cond (eqb (told .number) 0) (planText told carriers)
     (cond (eqb (told .number) 5) (numberLine carrierWord (told .carrier))
     (cond (eqb (told .number) 6) (pairLine (told .carrier) (told .other))
     (cond (eqb (told .number) 8 || eqb (told .number) 9) (numberLine recordsWord (told .records))
     [])))
 
-unfoldable pub toldText : Told → Team → ℕ → List ℕ → List ℕ
-toldText told team h output = numberLine answerWord (told .number) ++ restText told team h output
+unfoldable pub toldText : Told → List ℕ → List ℕ
+toldText told carriers = numberLine answerWord (told .number) ++ restText told carriers
+
+-- `told_lines` takes any numbers and any output, and has no line for a carrier where no plan of the team can stand there. The text of a
+-- book needs no such case: for answer 0 this is false (law `plan-held`).
+unfoldable pub holdsNoPlan : Team → ℕ → List ℕ → Bool
+holdsNoPlan team h output = ltb 8 (team .count) || ltb 63 h || ltb (length output) (team .count * (h + 1))
+
+unfoldable pub carriersText : Team → ℕ → List ℕ → List ℕ
+carriersText team h output = cond (holdsNoPlan team h output) [] (carrierLines team h output (team .count))

@@ -12,7 +12,7 @@ use Rattle.carriers.specs.Lent.{bytesTeam}
 use Rattle.tables.specs.Tables.{Tables}
 use Rattle.planner.specs.Answer.{Result, planned, answerTold}
 use Rattle.text.specs.Text.{page, put}
-use Rattle.lines.specs.Lines.{answerWord, numberLine, toldText}
+use Rattle.lines.specs.Lines.{answerWord, numberLine, carrierLines, toldText}
 
 abbrev pub teamIn : List ℕ → Team
 teamIn book = bytesTeam (bodyOf book 2)
@@ -23,7 +23,8 @@ jobIn book =
 
 -- the lines of a planner's result for the job in the book
 unfoldable pub resultText : List ℕ → Result → List ℕ
-resultText book result = toldText (answerTold (result .answer)) (teamIn book) (horizonIn (bodyOf book 3)) (result .tables .output)
+resultText book result =
+    toldText (answerTold (result .answer)) (carrierLines (teamIn book) (horizonIn (bodyOf book 3)) (result .tables .output) (teamIn book .count))
 
 -- what is printed for any book
 unfoldable pub bookText : List ℕ → ℕ → Tables → List ℕ

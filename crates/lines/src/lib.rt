@@ -119,7 +119,7 @@ fn put_team(out: &mut [u8], at: usize, team: Team, h: usize, output: &[u8]) -> u
 
 // 'For 0, then `sum`, `records`, and for each carrier its number, cost and cells'
 fn put_plan(out: &mut [u8], at: usize, told: Told, team: Team, h: usize, output: &[u8]) -> usize
-    ensures { λ r. ⌜ page (now (out .exit)) r ≡ put (page (now (out .entry)) at) (planText told team h (now (output .entry))) ⌝ }
+    ensures { λ r. ⌜ page (now (out .exit)) r ≡ put (page (now (out .entry)) at) (planText told (carriersText team h (now (output .entry)))) ⌝ }
 {
     let records = put_line(out, at, b"sum ", told.sum);
     let carriers = put_line(out, records, b"records ", told.records);
@@ -128,7 +128,7 @@ fn put_plan(out: &mut [u8], at: usize, told: Told, team: Team, h: usize, output:
 
 // What follows the first line.
 fn put_rest(out: &mut [u8], at: usize, told: Told, team: Team, h: usize, output: &[u8]) -> usize
-    ensures { λ r. ⌜ page (now (out .exit)) r ≡ put (page (now (out .entry)) at) (restText told team h (now (output .entry))) ⌝ }
+    ensures { λ r. ⌜ page (now (out .exit)) r ≡ put (page (now (out .entry)) at) (restText told (carriersText team h (now (output .entry)))) ⌝ }
 {
     let number = told.number;
     if number == 0 {
@@ -151,7 +151,7 @@ fn put_rest(out: &mut [u8], at: usize, told: Told, team: Team, h: usize, output:
 
 // The lines of what is given back for a job; the carriers' routes are read in the output.
 pub fn told_lines(told: Told, team: Team, h: usize, output: &[u8], out: &mut [u8]) -> usize
-    ensures { λ r. ⌜ page (now (out .exit)) r ≡ put (page (now (out .entry)) 0) (toldText told team h (now (output .entry))) ⌝ }
+    ensures { λ r. ⌜ page (now (out .exit)) r ≡ put (page (now (out .entry)) 0) (toldText told (carriersText team h (now (output .entry)))) ⌝ }
 {
     let rest = put_line(out, 0, b"answer ", told.number);
     put_rest(out, rest, told, team, h, output)
@@ -159,7 +159,7 @@ pub fn told_lines(told: Told, team: Team, h: usize, output: &[u8], out: &mut [u8
 
 // The lines of the planner's answer.
 pub fn answer_lines(answer: Answer, team: Team, h: usize, output: &[u8], out: &mut [u8]) -> usize
-    ensures { λ r. ⌜ page (now (out .exit)) r ≡ put (page (now (out .entry)) 0) (toldText (answerTold answer) team h (now (output .entry))) ⌝ }
+    ensures { λ r. ⌜ page (now (out .exit)) r ≡ put (page (now (out .entry)) 0) (toldText (answerTold answer) (carriersText team h (now (output .entry)))) ⌝ }
 {
     told_lines(told::answer_told(answer), team, h, output, out)
 }

@@ -26,7 +26,9 @@ use Rattle.planner.specs.declared.Answer.{Answer}
 use Rattle.planner.specs.declared.Answer.the-variants.{Plan, Refused, Short, NoPlan, Full}
 use Rattle.planner.proofs.Promises.{one-record}
 use Rattle.planner.proofs.Settled.{plan-settled}
-use Rattle.promises.specs.Promises.{numberOf, Runs, AlwaysNumbered, RefusesFirst, ShortIsSeven, Left, TablesLeft, NothingElse, ZeroIsLeast, EightIsNone, ByNeed, NineByNeed, MoreAltersNothing, CheckIsExact, PassIsSafe}
+use Rattle.lines.proofs.Fits.{page-whole as whole}
+use Rattle.lines.proofs.Whole.{plan-printed as printed}
+use Rattle.promises.specs.Promises.{numberOf, Runs, AlwaysNumbered, RefusesFirst, ShortIsSeven, Left, TablesLeft, NothingElse, ZeroIsLeast, EightIsNone, ByNeed, NineByNeed, MoreAltersNothing, CheckIsExact, PassIsSafe, PageWhole, PlanPrinted}
 
 -- ---- what the definitions give
 
@@ -258,3 +260,13 @@ check-is-exact = both-zero-exact
 pub pass-is-safe : PassIsSafe
 unfolding PassIsSafe
 pass-is-safe = both-zero-safe
+
+-- ---- the program
+
+pub page-whole : PageWhole
+unfolding PageWhole
+page-whole book n before after lent given r p room = whole book n before after lent given r p (omega arith) .0
+
+pub plan-printed : PlanPrinted
+unfolding PlanPrinted
+plan-printed = printed

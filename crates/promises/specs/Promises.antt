@@ -10,8 +10,10 @@
 use Prim.Native.Nat.{ℕ, _≤_, _<_}
 use mathlib.Core.Path.{_≡_}
 use mathlib.Core.Bool.{true, false}
-use mathlib.Core.List.{List}
+use mathlib.Core.List.{List, _++_}
 use mathlib.Core.Logic.{_⊎_, _↔_}
+use lib.ListN.{length, take}
+use Rattle.lists.specs.Lists.{range, each}
 use Rattle.job.specs.Job.{Job, wrongCapacity}
 use Rattle.job.specs.Verdict.{judgeWith, IsAccepted}
 use Rattle.job.specs.declared.Verdict.the-variants.{Accepted}
@@ -20,12 +22,17 @@ use Rattle.routes.specs.declared.RouteVerdict.{RouteVerdict}
 use Rattle.clashes.specs.Check.{meetingVerdict, meetingTold}
 use Rattle.clashes.specs.declared.MeetingVerdict.{MeetingVerdict}
 use Rattle.checks.specs.Demand.{LawfulRoutes, Safe}
-use Rattle.tree.specs.Plan.{Routes, IsPlan, IsSafe, Family, total}
+use Rattle.tree.specs.Plan.{Routes, routeOf, IsPlan, IsSafe, Family, total}
+use Rattle.tree.specs.Promises.{LeastPlan}
 use Rattle.tables.specs.Tables.{Tables, columnsLength, plansLength, layersLength, shortTable, zeroed, planWritten}
-use Rattle.planner.specs.Answer.{answerTold}
+use Rattle.planner.specs.Answer.{answerTold, planned}
 use Rattle.planner.specs.Post.{Planned}
 use Rattle.planner.specs.declared.Answer.{Answer}
 use Rattle.planner.specs.declared.Answer.the-variants.{Refused, Short}
+use Rattle.book.specs.Book.{bookVerdict}
+use Rattle.book.specs.declared.BookVerdict.the-variants.{Good}
+use Rattle.lines.specs.Lines.{answerWord, sumWord, recordsWord, numberLine, carrierLine}
+use Rattle.lines.specs.Printed.{jobIn, bookText, bookTables, Printed}
 
 -- the number given back
 abbrev pub numberOf : Answer → ℕ
@@ -108,3 +115,18 @@ CheckIsExact = (job : Job) (plan : List ℕ) (r : RouteVerdict) (m : MeetingVerd
 -- [pass-is-safe] and a plan that passes both, whatever its bytes, is of an accepted job, lawful and safe
 unfoldable pub PassIsSafe : Type 0
 PassIsSafe = (job : Job) (plan : List ℕ) (r : RouteVerdict) (m : MeetingVerdict) → r ≡ routeVerdict job plan → m ≡ meetingVerdict job plan → routeTold r .number ≡ 0 → meetingTold m .number ≡ 0 → IsAccepted job × LawfulRoutes job plan × Safe job plan
+
+-- ---- Beside the demands, document 01: 'The program reads at most 293 bytes from standard input, uses N = 128 and prints.'
+--
+-- `Printed (bookText book n before) (bookTables book n before) lent r after given` is the whole contract of `lines::book_lines` (crate
+-- lines, specs/Printed.antt): called with any bytes as the book, N = n, these lent tables and the page `lent`, it may leave the page
+-- `given` and the tables `after`. The program lends a page of 4,096 bytes and writes the first r of what is left.
+
+-- [page-whole] nothing is ever cut: what is written is the whole text, whatever the bytes that were read
+unfoldable pub PageWhole : Type 0
+PageWhole = (book : List ℕ) (n : ℕ) (before after : Tables) (lent given : List ℕ) (r : ℕ) → Printed (bookText book n before) (bookTables book n before) lent r after given → length lent ≡ 4096 → take r given ≡ bookText book n before
+
+-- [plan-printed] 'For 0, then `sum`, `records`, and for each carrier its number, cost and cells from step 0 to its cost.' The routes
+-- are a plan of the job in the book, with no smaller sum; no carrier is left out
+unfoldable pub PlanPrinted : Type 0
+PlanPrinted = (book : List ℕ) (n : ℕ) (before : Tables) → bookVerdict book ≡ Good → numberOf (planned (jobIn book) n before .answer) ≡ 0 → (rs : Routes) × (records : ℕ) × LeastPlan (jobIn book) rs (total (jobIn book) rs) × (records ≤ n) × (bookText book n before ≡ numberLine answerWord 0 ++ (numberLine sumWord (total (jobIn book) rs) ++ numberLine recordsWord records ++ each (λ i. carrierLine i (jobIn book .goalOf i) (routeOf rs i)) (range 0 (jobIn book .count))))

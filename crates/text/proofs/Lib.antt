@@ -1,2 +1,4 @@
+pub mod Lengths
 pub mod Settled
 pub mod TextLaws
+pub mod Wrong

@@ -78,7 +78,7 @@ pub digits-one : (n : ℕ) → n < 10 → digits n ≡ (48 + n % 10) ∷ []
 unfolding digits
 digits-one n small = within-one n n small
 
-digits-more : (n : ℕ) → 10 ≤ n → digits n ≡ digits (n / 10) ++ ((48 + n % 10) ∷ [])
+pub digits-more : (n : ℕ) → 10 ≤ n → digits n ≡ digits (n / 10) ++ ((48 + n % 10) ∷ [])
 unfolding digits
 digits-more n more =
     within-more n n more ∙ ap (λ (ds : List ℕ). ds ++ ((48 + n % 10) ∷ [])) (enough n (suc (n / 10)) (n / 10) (omega arith) (omega arith))

@@ -2,7 +2,7 @@
 use mathlib.Core.Path.{ap, _∙_}
 use Rattle.job.specs.declared.Told.{Told}
 use Rattle.text.specs.Text.{page, put}
-use Rattle.lines.specs.Lines.{toldText}
+use Rattle.lines.specs.Lines.{carriersText, toldText}
 use borrow.Author.Needs.{needs}
 use Rattle.lines.proofs.answer_lines.Statement.{statement}
 use Rattle.lines.proofs.answer_lines.Tie as tie
@@ -17,7 +17,7 @@ same-length : tie.Need-same-length
 same-length c = search needs
 
 returns : tie.Need-returns
-returns c = c .before .before .told-lines .ensures ∙ ap (λ (t : Told). put (page (c .before .before .before .before .before .before .before .args .out .now) 0) (toldText t (c .before .before .before .before .before .before .before .args .team) (c .before .before .before .before .before .before .before .args .h) (c .before .before .before .before .before .before .before .args .output .now))) (c .before .before .before .before .answer-told .ensures)
+returns c = c .before .before .told-lines .ensures ∙ ap (λ (t : Told). put (page (c .before .before .before .before .before .before .before .args .out .now) 0) (toldText t (carriersText (c .before .before .before .before .before .before .before .args .team) (c .before .before .before .before .before .before .before .args .h) (c .before .before .before .before .before .before .before .args .output .now)))) (c .before .before .before .before .answer-told .ensures)
 
 pub answer-lines-spec : {M : Type 1} → statement M
 answer-lines-spec =

@@ -1,0 +1,129 @@
+-- What the planner's answer tells is small, whatever the job: 0, 8 and 9 come of an accepted job, 0 with a least plan in the output.
+-- Assumes nothing.
+use Prim.Native.Nat.{ℕ, _*_, _≤_, _<_}
+use native.Mathlib.Omega.{arith}
+use mathlib.Core.Bool.{Bool, true, false}
+use mathlib.Core.List.{List}
+use mathlib.Core.Option.{none, some}
+use mathlib.Core.Path.{_≡_, refl}
+use lib.Dec.{eqb, ltb}
+use borrow.Author.Tests.{ltb-false}
+use Rattle.lists.proofs.Sums.{sum-at-most}
+use Rattle.lists.proofs.Tests.{or-fails}
+use Rattle.job.specs.Job.{Job, wrongCapacity}
+use Rattle.job.specs.Verdict.{verdictTold, judgeWith, ifAccepted}
+use Rattle.job.specs.declared.Verdict.{Verdict}
+use Rattle.job.specs.declared.Verdict.the-variants.{Accepted, WrongGrid, WrongBytes, WrongLimits, WrongCount, WrongEnds, SharedEnds}
+use Rattle.job.proofs.Accepted.{accepted-facts}
+use Rattle.routes.specs.Route.{Lawful, cost}
+use Rattle.routes.proofs.Cost.{cost-least}
+use Rattle.search.specs.Search.{Outcome, done, full}
+use Rattle.tree.specs.Plan.{Routes, routeOf, total, Family}
+use Rattle.tree.specs.Promises.{LeastPlan}
+use Rattle.tree.specs.Tree.{Node, tree}
+use Rattle.tables.specs.Tables.{Tables, shortTable, planWritten}
+use Rattle.planner.specs.Answer.{Result, answerTold, searched, enough, planned}
+use Rattle.planner.specs.Promises.{Promised}
+use Rattle.planner.specs.declared.Answer.{Answer}
+use Rattle.planner.specs.declared.Answer.the-variants.{Plan, Refused, Short, NoPlan, Full}
+use Rattle.planner.proofs.Promises.{planned-promised}
+use Rattle.lines.proofs.Small.{Small, SmallVerdict, bare-small, counted-small, judged-small}
+
+-- ---- the job of an answer
+
+unfoldable Known : Job → ℕ → Answer → Type 0
+Known job n (Plan s r) = judgeWith (wrongCapacity n) job ≡ Accepted
+Known job n (Refused v) = (1 ≤ verdictTold v .number) × SmallVerdict v
+Known job n Short = Unit {0}
+Known job n (NoPlan r) = judgeWith (wrongCapacity n) job ≡ Accepted
+Known job n (Full r) = judgeWith (wrongCapacity n) job ≡ Accepted
+
+abbrev KnownOf : Job → ℕ → Result → Type 0
+KnownOf job n result = Known job n (result .answer)
+
+module _ (job : Job) (n : ℕ) (ts : Tables) where
+  searched-known : (o : Outcome Node) → judgeWith (wrongCapacity n) job ≡ Accepted → KnownOf job n (searched job n ts o)
+  unfolding Known searched
+  searched-known (done (some x) r) e = e
+  searched-known (done none r) e = e
+  searched-known (full r) e = e
+
+  enough-known : judgeWith (wrongCapacity n) job ≡ Accepted → KnownOf job n (enough job n ts)
+  unfolding Known enough
+  enough-known e = go (shortTable job n ts)
+    where
+      go : (b : Bool) → KnownOf job n (elim b [ true ↦ record { answer = Short; tables = ts } | false ↦ searched job n ts (tree job n) ])
+      go true = tt
+      go false = searched-known (tree job n) e
+
+  known : KnownOf job n (planned job n ts)
+  unfolding Known planned ifAccepted
+  known = go (judgeWith (wrongCapacity n) job) refl (judged-small (wrongCapacity n) job)
+    where
+      go : (v : Verdict) → judgeWith (wrongCapacity n) job ≡ v → SmallVerdict v → KnownOf job n (ifAccepted v (enough job n ts) (record { answer = Refused v; tables = ts }))
+      go Accepted e f = enough-known e
+      go WrongGrid e f = (omega arith, f)
+      go WrongBytes e f = (omega arith, f)
+      go WrongLimits e f = (omega arith, f)
+      go WrongCount e f = (omega arith, f)
+      go (WrongEnds i) e f = (omega arith, f)
+      go (SharedEnds i j) e f = (omega arith, f)
+
+-- ---- what is told of an accepted job
+
+pub cost-within : (job : Job) (i : ℕ) (r : List ℕ) → Lawful job i r → cost (job .goalOf i) r ≤ job .horizon
+cost-within job i r law = cost-least (job .goalOf i) (job .horizon) r (law .long) (law .ends) .within
+
+most-records : (n : ℕ) → wrongCapacity n ≡ false → n ≤ 1024
+unfolding wrongCapacity
+most-records n e = ltb-false 1024 n (or-fails (eqb n 0) (ltb 1024 n) e .1)
+
+module _ (job : Job) (n : ℕ) (accepted : judgeWith (wrongCapacity n) job ≡ Accepted) where
+  records-small : (r : ℕ) → r ≤ n → r ≤ 1024
+  records-small r l = omega (arith, most-records n (accepted-facts (wrongCapacity n) job accepted .capacity))
+
+  -- at most 8 carriers, each with a cost of at most H
+  total-small : (rs : Routes) → Family job rs → total job rs < 1000
+  unfolding total
+  total-small rs family =
+      let facts = accepted-facts (wrongCapacity n) job accepted in
+      let costs : total job rs ≤ job .count * 63 =
+      sum-at-most (job .count) 63 (λ i. cost (job .goalOf i) (routeOf rs i))
+      (λ i l. omega (arith, cost-within job i (routeOf rs i) (family .lawful i l), facts .horizonMost)) in
+      omega (arith, facts .countMost)
+
+answer-small : (job : Job) (n : ℕ) (ts : Tables) (answer : Answer) (after : Tables) → Promised job n ts answer after → Known job n answer → Small (answerTold answer)
+unfolding Promised Known
+answer-small job n ts (Plan s r) after (rs, least, written, few) k =
+    counted-small 0 s r (omega arith) (omega (arith, least .told, total-small job n k rs (least .plan .family))) (records-small job n k r few)
+answer-small job n ts (Refused v) after p k = k .1
+answer-small job n ts Short after p k = bare-small 7 (omega arith)
+answer-small job n ts (NoPlan r) after p k = counted-small 8 0 r (omega arith) (omega arith) (records-small job n k r (p .1))
+answer-small job n ts (Full r) after p k = counted-small 9 0 r (omega arith) (omega arith) (records-small job n k r (omega (arith, p .0)))
+
+pub told-small : (job : Job) (n : ℕ) (ts : Tables) → Small (answerTold (planned job n ts .answer))
+told-small job n ts = answer-small job n ts (planned job n ts .answer) (planned job n ts .tables) (planned-promised job n ts) (known job n ts)
+
+-- ---- answer 0
+
+pub record Found (job : Job) (n : ℕ) (ts : Tables) (answer : Answer) (after : Tables) : Type 0 where
+  pub routes : Routes
+  pub sum : ℕ
+  pub records : ℕ
+  pub told : answer ≡ Plan sum records
+  pub least : LeastPlan job routes sum
+  pub written : after .output ≡ planWritten job routes (ts .output)
+  pub made : records ≤ n
+  pub accepted : judgeWith (wrongCapacity n) job ≡ Accepted
+
+found : (job : Job) (n : ℕ) (ts : Tables) (answer : Answer) (after : Tables) → Promised job n ts answer after → Known job n answer → answerTold answer .number ≡ 0 → Found job n ts answer after
+unfolding Promised Known
+found job n ts (Plan s r) after (rs, least, written, few) k is =
+    record { routes = rs; sum = s; records = r; told = refl; least = least; written = written; made = few; accepted = k }
+found job n ts (Refused v) after p k is = absurd (omega (arith, k .0))
+found job n ts Short after p k is = absurd (omega arith)
+found job n ts (NoPlan r) after p k is = absurd (omega arith)
+found job n ts (Full r) after p k is = absurd (omega arith)
+
+pub zero-found : (job : Job) (n : ℕ) (ts : Tables) → answerTold (planned job n ts .answer) .number ≡ 0 → Found job n ts (planned job n ts .answer) (planned job n ts .tables)
+zero-found job n ts = found job n ts (planned job n ts .answer) (planned job n ts .tables) (planned-promised job n ts) (known job n ts)

@@ -1,0 +1,63 @@
+-- Wrong answers of `answer_lines`, `refusal_lines` and `book_lines`, each refuted at one answer, number or book: the contract with it is
+-- false, by computation. Those of `told_lines` are the edits in must-fail/. Assumes nothing.
+use Prim.Native.Nat.{ℕ}
+use native.Mathlib.Omega.{arith}
+use mathlib.Core.List.{List, []}
+use mathlib.Core.Path.{_≡_, ap, sym, _∙_}
+use lib.ListN.{getD, replicate}
+use Rattle.lists.specs.Lists.{refuseIf}
+use Rattle.book.specs.Book.{noContents, bookVerdict, ifGood}
+use Rattle.book.proofs.Example.{printedBook}
+use Rattle.tables.specs.Tables.{Tables}
+use Rattle.planner.specs.Answer.{answerTold}
+use Rattle.planner.specs.declared.Answer.the-variants.{Short, Full}
+use Rattle.text.specs.Text.{Page, page, putByte, put, digitsWithin, digits}
+use Rattle.lines.specs.Lines.{answerWord, numberLine, restText, toldText}
+use Rattle.lines.specs.Printed.{bookText, bookTables, Printed}
+use Rattle.lines.proofs.Example.{programTables, printed-book-text}
+
+-- a page of so many zeros
+abbrev blank : ℕ → Page
+blank n = page (replicate n 0) 0
+
+-- ---- answer_lines: for any lines of carriers, so for those of any team and output
+
+-- '8' is 56, at byte 7
+pub seven-printed-as-8 : (carriers given : List ℕ) (r : ℕ) → getD given 7 0 ≡ 56 → page given r ≡ put (blank 9) (toldText (answerTold Short) carriers) → ⊥
+unfolding put putByte digits digitsWithin numberLine restText toldText
+seven-printed-as-8 carriers given r wrong e = let z : _≡_ {A = ℕ} 56 55 = sym wrong ∙ ap (λ (p : Page). getD (p .bytes) 7 0) e in omega arith
+
+-- 'answer 9' has nine bytes, 'records 2' ten more
+pub nine-printed-without-records : (carriers given : List ℕ) → page given 9 ≡ put (blank 30) (toldText (answerTold (Full 2)) carriers) → ⊥
+unfolding put putByte digits digitsWithin numberLine restText toldText
+nine-printed-without-records carriers given e = let z : _≡_ {A = ℕ} 9 19 = ap (λ (p : Page). p .at) e in omega arith
+
+-- ---- refusal_lines
+
+-- '2' is 50, at byte 8
+pub eleven-printed-as-12 : (given : List ℕ) (r : ℕ) → getD given 8 0 ≡ 50 → page given r ≡ put (blank 10) (numberLine answerWord 11) → ⊥
+unfolding put putByte digits digitsWithin numberLine
+eleven-printed-as-12 given r wrong e = let z : _≡_ {A = ℕ} 50 49 = sym wrong ∙ ap (λ (p : Page). getD (p .bytes) 8 0) e in omega arith
+
+pub line-not-ended : (given : List ℕ) → page given 9 ≡ put (blank 10) (numberLine answerWord 11) → ⊥
+unfolding put putByte digits digitsWithin numberLine
+line-not-ended given e = let z : _≡_ {A = ℕ} 9 10 = ap (λ (p : Page). p .at) e in omega arith
+
+-- ---- book_lines
+
+-- document 01's own book has a plan
+pub printed-book-answered-8 : (after : Tables) (given : List ℕ) (r : ℕ) → getD given 7 0 ≡ 56
+    → Printed (bookText printedBook 128 programTables) (bookTables printedBook 128 programTables) (replicate 4096 0) r after given → ⊥
+unfolding put putByte
+printed-book-answered-8 after given r wrong p =
+    let e : getD given 7 0 ≡ 48 = ap (λ (q : Page). getD (q .bytes) 7 0) (p .printed ∙ ap (put (blank 4096)) printed-book-text) in
+    let z : _≡_ {A = ℕ} 56 48 = sym wrong ∙ e in
+    omega arith
+
+-- 'After 1 to 7 no lent entry has changed', nor with a book that is refused: here one of no bytes
+pub refused-book-clears-the-output : (n : ℕ) (lent given : List ℕ) (r : ℕ) (before after : Tables) → getD (before .output) 0 0 ≡ 5 → getD (after .output) 0 0 ≡ 0
+    → Printed (bookText [] n before) (bookTables [] n before) lent r after given → ⊥
+unfolding bookTables bookVerdict refuseIf noContents ifGood
+refused-book-clears-the-output n lent given r before after was wrong p =
+    let z : _≡_ {A = ℕ} 0 5 = sym wrong ∙ ap (λ (t : Tables). getD (t .output) 0 0) (p .settled) ∙ was in
+    omega arith

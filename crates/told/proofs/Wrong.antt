@@ -1,0 +1,35 @@
+-- Wrong answers of `answer_told`, `route_told` and `meeting_told`, each refuted at one answer or verdict: the contract with it is false,
+-- by computation. What is here stands beside the edits in must-fail/. Assumes nothing.
+use Prim.Native.Nat.{ℕ}
+use native.Mathlib.Omega.{arith}
+use mathlib.Core.Path.{_≡_, ap, sym, _∙_}
+use Rattle.job.specs.declared.Fault.{Fault}
+use Rattle.job.specs.declared.Told.{Told}
+use Rattle.planner.specs.Answer.{answerTold}
+use Rattle.planner.specs.declared.Answer.the-variants.{Full}
+use Rattle.routes.specs.Check.{routeTold}
+use Rattle.routes.specs.declared.RouteVerdict.the-variants.{Short, Wrong}
+use Rattle.clashes.specs.Check.{meetingTold}
+use Rattle.clashes.specs.declared.Clash.the-variants.{Meeting}
+use Rattle.clashes.specs.declared.MeetingVerdict.the-variants.{Compared}
+
+-- ---- answer_told
+
+-- 'a record is due and N are in use' is no 'the tree is used up'
+pub full-told-as-8 : (r : Told) → r .number ≡ 8 → r ≡ answerTold (Full 2) → ⊥
+full-told-as-8 r wrong e = let z : _≡_ {A = ℕ} 8 9 = sym wrong ∙ ap (λ (t : Told). t .number) e in omega arith
+
+-- ---- route_told
+
+-- carrier 1 is wrong at step 2
+pub step-told-before-carrier : (r : Fault) → r .carrier ≡ 2 → r .step ≡ 1 → r ≡ routeTold (Wrong 1 2) → ⊥
+step-told-before-carrier r first second e = let z : _≡_ {A = ℕ} 2 1 = sym first ∙ ap (λ (f : Fault). f .carrier) e in omega arith
+
+pub short-plan-told-as-lawful : (r : Fault) → r .number ≡ 0 → r ≡ routeTold Short → ⊥
+short-plan-told-as-lawful r wrong e = let z : _≡_ {A = ℕ} 0 7 = sym wrong ∙ ap (λ (f : Fault). f .number) e in omega arith
+
+-- ---- meeting_told
+
+-- carrier 0 at step 3 and carrier 1 two steps later
+pub carriers-of-a-meeting-exchanged : (r : Fault) → r .carrier ≡ 1 → r .other ≡ 0 → r ≡ meetingTold (Compared (Meeting 0 1 3 2)) → ⊥
+carriers-of-a-meeting-exchanged r first second e = let z : _≡_ {A = ℕ} 1 0 = sym first ∙ ap (λ (f : Fault). f .carrier) e in omega arith
