@@ -6,16 +6,15 @@ use mathlib.Core.Path.{_≡_, refl, sym, ap, subst, _∙_}
 use mathlib.Core.Bool.{Bool, true, false}
 use mathlib.Core.List.{List, []}
 use mathlib.Core.Option.{some}
-use lib.ListN.{length}
-use Rattle.lists.specs.Lists.{anyOf}
+use lib.ListN.{length, getD}
 use Rattle.job.specs.Job.{Job}
 use Rattle.routes.specs.Route.{routeIn}
-use Rattle.routes.specs.Bars.{barsFor, barsCell, barsWay, mayStand, mayTurn}
+use Rattle.routes.specs.Bars.{barsFor}
 use Rattle.routes.specs.declared.Bar.the-variants.{Free}
 use Rattle.records.specs.Columns.{barAt}
-use Rattle.marks.specs.Marks.{boundBy, barsMove, markOf, SameFrom}
+use Rattle.marks.specs.Marks.{boundBy, SameFrom}
 use Rattle.marks.proofs.Places.{same-from, same-then}
-use Rattle.layers.specs.Layers.{wayFrom, byteAt}
+use Rattle.layers.proofs.SeekLaws.{free-filled}
 use Rattle.tree.specs.Plan.{routeOf}
 use Rattle.tree.specs.Tree.{routeUnder}
 use Rattle.tables.specs.State.{routesIn, stretchAt}
@@ -37,8 +36,8 @@ module _ (task : Task) (bytes columns plans layers layers' : List ℕ) (i : ℕ)
 
   -- 'no bar' marks nothing
   free-sought : SoughtFree task bytes i layers'
-  unfolding boundBy barsFor byteAt wayFrom mayStand mayTurn markOf barsMove anyOf barsCell barsWay
-  free-sought = let filled = rw (root-unbarred (task .capacity) columns unbarred) at (sought .sought) in record { levels = λ t v l k. filled .levels t v l k }
+  unfolding boundBy barsFor
+  free-sought = free-filled (jobOn task bytes .hall) [] (getD (task .team .goals) i 0) (task .horizon) layers' (rw (root-unbarred (task .capacity) columns unbarred) at (sought .sought))
 
   pub none-free : found ≡ false → FreeRoute task bytes i plans layers plans layers' false
   unfolding putRoute

@@ -14,9 +14,9 @@ use Rattle.routes.specs.Bars.{barsCell, barsWay, mayStand, mayTurn}
 use Rattle.routes.specs.Best.{bestRoute}
 use Rattle.routes.specs.declared.Bar.{Bar}
 use Rattle.routes.specs.declared.Bar.the-variants.{Free}
-use Rattle.marks.specs.Marks.{SameFrom}
+use Rattle.marks.specs.Marks.{SameFrom, barsMove, markOf}
 use Rattle.marks.specs.Post.{MarkedAll}
-use Rattle.layers.specs.Layers.{routeFrom, soughtOf, levelOf, Filled}
+use Rattle.layers.specs.Layers.{wayFrom, routeFrom, soughtOf, levelOf, byteAt, Filled}
 use Rattle.layers.specs.Fill.{Levelled}
 use Rattle.layers.specs.Post.{SoughtRoute}
 use Rattle.layers.specs.declared.Sought.the-variants.{Nothing, Cost}
@@ -31,6 +31,10 @@ route-is-best job i bars = refl
 pub free-bar : (hall : Hall) (bars : List Bar) (start goal h : ℕ) → routeFrom hall (Free ∷ bars) start goal h ≡ routeFrom hall bars start goal h
 unfolding mayStand mayTurn anyOf barsCell barsWay
 free-bar hall bars start goal h = refl
+
+pub free-filled : (hall : Hall) (bars : List Bar) (goal h : ℕ) (layers : List ℕ) → Filled hall (Free ∷ bars) goal h layers → Filled hall bars goal h layers
+unfolding byteAt wayFrom mayStand mayTurn markOf barsMove anyOf barsCell barsWay
+free-filled hall bars goal h layers f = record { levels = λ t v l i. f .levels t v l i }
 
 -- ---- what a level tells
 

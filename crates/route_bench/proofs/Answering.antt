@@ -6,20 +6,19 @@ use native.Mathlib.Omega.{arith}
 use mathlib.Core.Path.{_≡_, refl, sym, ap, _∙_}
 use mathlib.Core.List.{List}
 use mathlib.Core.Option.{Option, none, some}
-use Rattle.routes.specs.Bars.{barsFor}
+use Rattle.hall.specs.Hall.{Hall}
+use Rattle.routes.specs.declared.Bar.{Bar}
 use Rattle.routes.specs.declared.Bar.the-variants.{Free}
-use Rattle.records.specs.Columns.{chainOf}
 use Rattle.marks.specs.Marks.{boundBy}
-use Rattle.layers.specs.Layers.{routeFrom, soughtOf, writtenRoute}
-use Rattle.layers.specs.Fill.{lentHall}
+use Rattle.layers.specs.Layers.{routeFrom, soughtOf, writtenRoute, Filled}
 use Rattle.layers.specs.Post.{SoughtRoute}
 use Rattle.layers.specs.declared.Sought.{Sought}
 use Rattle.layers.specs.declared.Sought.the-variants.{Nothing, Cost}
-use Rattle.layers.proofs.SeekLaws.{free-bar}
-use Rattle.route_bench.specs.Answer.{costTold, routeAt, Told, Answered}
+use Rattle.layers.proofs.SeekLaws.{free-bar, free-filled}
+use Rattle.route_bench.specs.Answer.{costTold, barsAt, Told, Answered}
 
-pub refused : (right : Type 0) (goal : ℕ) (route : Option (List ℕ)) (layers stretch : List ℕ) → (right → ⊥) → Answered right goal route layers layers stretch stretch 254
-refused right goal route layers stretch wrong =
+pub refused : (right : Type 0) (hall : Hall) (bars : List Bar) (start goal h : ℕ) (layers stretch : List ℕ) → (right → ⊥) → Answered right hall bars start goal h layers layers stretch stretch 254
+refused right hall bars start goal h layers stretch wrong =
     record { answers = λ r. absurd (wrong r); refuses = λ w. record { told = refl; unwritten = refl; unfilled = refl } }
 
 -- ---- what seeking told
@@ -41,28 +40,38 @@ cost-cost goal c (some r) e = cc
 
 -- ---- what is answered
 
-module _ (hall : List ℕ) (width height start goal h : ℕ) (columns : List ℕ) (capacity node carrier : ℕ) where
-  free-route : routeFrom (lentHall width height hall) (boundBy capacity columns node carrier Free) start goal h ≡ routeAt hall width height start goal h columns capacity node carrier
-  unfolding boundBy routeAt
-  free-route = free-bar (lentHall width height hall) (barsFor carrier (chainOf capacity columns node)) start goal h
+module _ (hall : Hall) (start goal h : ℕ) (columns : List ℕ) (capacity node carrier : ℕ) (layers filled : List ℕ) (answer : Sought) (sought : SoughtRoute hall (boundBy capacity columns node carrier Free) start goal h layers filled answer) where
+  abbrev bars : List Bar
+  bars = barsAt capacity columns node carrier
 
-  tells : (layers filled : List ℕ) (answer : Sought) → SoughtRoute (lentHall width height hall) (boundBy capacity columns node carrier Free) start goal h layers filled answer → answer ≡ soughtOf goal (routeAt hall width height start goal h columns capacity node carrier)
-  tells layers filled answer s = s .told ∙ ap (soughtOf goal) free-route
+  free-route : routeFrom hall (boundBy capacity columns node carrier Free) start goal h ≡ routeFrom hall bars start goal h
+  unfolding boundBy
+  free-route = free-bar hall bars start goal h
 
-  pub none-answered : (layers filled stretch : List ℕ) (answer : Sought) → SoughtRoute (lentHall width height hall) (boundBy capacity columns node carrier Free) start goal h layers filled answer → answer ≡ Nothing → Told goal (routeAt hall width height start goal h columns capacity node carrier) stretch stretch 255
-  none-answered layers filled stretch answer s e =
-      let t = sym e ∙ tells layers filled answer s in
+  bars-filled : Filled hall bars goal h filled
+  unfolding boundBy
+  bars-filled = free-filled hall bars goal h filled (sought .filled)
+
+  tells : answer ≡ soughtOf goal (routeFrom hall bars start goal h)
+  tells = sought .told ∙ ap (soughtOf goal) free-route
+
+  pub none-answered : (stretch : List ℕ) → answer ≡ Nothing → Told hall bars start goal h layers filled stretch stretch 255
+  none-answered stretch e =
       record {
-        told = none-cost goal (routeAt hall width height start goal h columns capacity node carrier) t;
-        written = none-written goal (routeAt hall width height start goal h columns capacity node carrier) stretch t;
+        told = none-cost goal (routeFrom hall bars start goal h) (sym e ∙ tells);
+        written = none-written goal (routeFrom hall bars start goal h) stretch (sym e ∙ tells);
+        filled = bars-filled;
+        kept = sought .kept;
       }
 
-  pub cost-answered : (layers filled stretch written : List ℕ) (answer : Sought) (c : ℕ) → SoughtRoute (lentHall width height hall) (boundBy capacity columns node carrier Free) start goal h layers filled answer → answer ≡ Cost c → written ≡ writtenRoute (routeFrom (lentHall width height hall) (boundBy capacity columns node carrier Free) start goal h) stretch → Told goal (routeAt hall width height start goal h columns capacity node carrier) stretch written c
-  cost-answered layers filled stretch written answer c s e w =
+  pub cost-answered : (stretch written : List ℕ) (c : ℕ) → answer ≡ Cost c → written ≡ writtenRoute (routeFrom hall (boundBy capacity columns node carrier Free) start goal h) stretch → Told hall bars start goal h layers filled stretch written c
+  cost-answered stretch written c e w =
       record {
-        told = cost-cost goal c (routeAt hall width height start goal h columns capacity node carrier) (sym e ∙ tells layers filled answer s);
+        told = cost-cost goal c (routeFrom hall bars start goal h) (sym e ∙ tells);
         written = w ∙ ap (λ o. writtenRoute o stretch) free-route;
+        filled = bars-filled;
+        kept = sought .kept;
       }
 
-pub answered : (right : Type 0) (goal : ℕ) (route : Option (List ℕ)) (layers filled stretch written : List ℕ) (answer : ℕ) → right → Told goal route stretch written answer → Answered right goal route layers filled stretch written answer
-answered right goal route layers filled stretch written answer holds told = record { answers = λ r. told; refuses = λ wrong. absurd (wrong holds) }
+pub answered : (right : Type 0) (hall : Hall) (bars : List Bar) (start goal h : ℕ) (layers filled stretch written : List ℕ) (answer : ℕ) → right → Told hall bars start goal h layers filled stretch written answer → Answered right hall bars start goal h layers filled stretch written answer
+answered right hall bars start goal h layers filled stretch written answer holds told = record { answers = λ r. told; refuses = λ wrong. absurd (wrong holds) }

@@ -1,3 +1,4 @@
 pub mod Answering
+pub mod Settled
 pub mod Telling
 pub mod Wrong

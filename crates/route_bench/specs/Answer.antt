@@ -6,11 +6,13 @@ use mathlib.Core.Bool.{Bool, true, false}
 use mathlib.Core.List.{List}
 use mathlib.Core.Option.{Option, none, some}
 use lib.ListN.{length}
+use Rattle.hall.specs.Hall.{Hall, size}
 use Rattle.routes.specs.Route.{cost}
 use Rattle.routes.specs.Bars.{barsFor}
+use Rattle.routes.specs.declared.Bar.{Bar}
 use Rattle.records.specs.Columns.{chainOf, Falls}
-use Rattle.layers.specs.Layers.{routeFrom, writtenRoute}
-use Rattle.layers.specs.Fill.{lentHall}
+use Rattle.marks.specs.Marks.{SameFrom}
+use Rattle.layers.specs.Layers.{routeFrom, writtenRoute, Filled}
 
 -- a test's answer tells whether P holds
 unfoldable pub Tells : Type 0 → Bool → Type 0
@@ -43,21 +45,24 @@ unfoldable pub costTold : ℕ → Option (List ℕ) → ℕ
 costTold goal none = 255
 costTold goal (some r) = cost goal r
 
--- the best route of a carrier under the bars that bind it at a node (rule 2)
-unfoldable pub routeAt : List ℕ → ℕ → ℕ → ℕ → ℕ → ℕ → List ℕ → ℕ → ℕ → ℕ → Option (List ℕ)
-routeAt hall width height start goal h columns capacity node carrier =
-    routeFrom (lentHall width height hall) (barsFor carrier (chainOf capacity columns node)) start goal h
+-- the bars that bind a carrier at a node
+abbrev pub barsAt : ℕ → List ℕ → ℕ → ℕ → List Bar
+barsAt capacity columns node carrier = barsFor carrier (chainOf capacity columns node)
 
-pub record Told (goal : ℕ) (route : Option (List ℕ)) (before after : List ℕ) (answer : ℕ) : Type 0 where
-  pub told : answer ≡ costTold goal route
-  pub written : after ≡ writtenRoute route before
+-- the cost and the stretch are those of the best route under these bars (rule 2), the layers hold its levels, and what lies past them is as
+-- it was
+pub record Told (hall : Hall) (bars : List Bar) (start goal h : ℕ) (layers layers-after stretch stretch-after : List ℕ) (answer : ℕ) : Type 0 where
+  pub told : answer ≡ costTold goal (routeFrom hall bars start goal h)
+  pub written : stretch-after ≡ writtenRoute (routeFrom hall bars start goal h) stretch
+  pub filled : Filled hall bars goal h layers-after
+  pub kept : SameFrom ((h + 1) * size hall) layers layers-after
 
-pub record Refused (before after layers layers-after : List ℕ) (answer : ℕ) : Type 0 where
+pub record Refused (layers layers-after stretch stretch-after : List ℕ) (answer : ℕ) : Type 0 where
   pub told : answer ≡ 254
-  pub unwritten : after ≡ before
+  pub unwritten : stretch-after ≡ stretch
   pub unfilled : layers-after ≡ layers
 
 -- right arguments are answered by the best route, others are refused
-pub record Answered (right : Type 0) (goal : ℕ) (route : Option (List ℕ)) (layers layers-after stretch stretch-after : List ℕ) (answer : ℕ) : Type 0 where
-  pub answers : right → Told goal route stretch stretch-after answer
-  pub refuses : (right → ⊥) → Refused stretch stretch-after layers layers-after answer
+pub record Answered (right : Type 0) (hall : Hall) (bars : List Bar) (start goal h : ℕ) (layers layers-after stretch stretch-after : List ℕ) (answer : ℕ) : Type 0 where
+  pub answers : right → Told hall bars start goal h layers layers-after stretch stretch-after answer
+  pub refuses : (right → ⊥) → Refused layers layers-after stretch stretch-after answer

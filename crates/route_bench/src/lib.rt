@@ -4,7 +4,8 @@ use routes::Bar;
 ghost use Prim.Native.Nat.{_*_, _≤_, _<_};
 ghost use lib.ListN.{length};
 ghost use Rattle.records.specs.Columns.{Falls};
-ghost use Rattle.route_bench.specs.Answer.{Tells, RightFloor, RightRoom, RightArguments, routeAt, Told, Answered};
+ghost use Rattle.layers.specs.Fill.{lentHall};
+ghost use Rattle.route_bench.specs.Answer.{Tells, RightFloor, RightRoom, RightArguments, barsAt, Told, Answered};
 
 // The cost that stands for 'no route', and for arguments that are not right.
 const NO_ROUTE: usize = 255;
@@ -124,7 +125,7 @@ fn best_route(
     stretch: &mut [u8],
 ) -> usize
     requires { ⌜ RightArguments (now hall) width height start goal h (now columns) capacity node (now layers) (now stretch) ⌝ }
-    ensures { λ r. ⌜ Told goal (routeAt (now (hall .entry)) width height start goal h (now (columns .entry)) capacity node carrier) (now (stretch .entry)) (now (stretch .exit)) r ⌝ }
+    ensures { λ r. ⌜ Told (lentHall width height (now (hall .entry))) (barsAt capacity (now (columns .entry)) node carrier) start goal h (now (layers .entry)) (now (layers .exit)) (now (stretch .entry)) (now (stretch .exit)) r ⌝ }
 {
     let sought = layers::seek_route(
         hall,
@@ -179,7 +180,7 @@ pub extern "C" fn adfulmise_best_route(
     layers: &mut [u8],
     stretch: &mut [u8],
 ) -> usize
-    ensures { λ r. ⌜ Answered (RightArguments (now (hall .entry)) width height start goal h (now (columns .entry)) capacity node (now (layers .entry)) (now (stretch .entry))) goal (routeAt (now (hall .entry)) width height start goal h (now (columns .entry)) capacity node carrier) (now (layers .entry)) (now (layers .exit)) (now (stretch .entry)) (now (stretch .exit)) r ⌝ }
+    ensures { λ r. ⌜ Answered (RightArguments (now (hall .entry)) width height start goal h (now (columns .entry)) capacity node (now (layers .entry)) (now (stretch .entry))) (lentHall width height (now (hall .entry))) (barsAt capacity (now (columns .entry)) node carrier) start goal h (now (layers .entry)) (now (layers .exit)) (now (stretch .entry)) (now (stretch .exit)) r ⌝ }
 {
     if !right_arguments(
         hall,
