@@ -31,43 +31,55 @@ use Rattle.lines.proofs.Small.{Small, SmallVerdict, bare-small, counted
 
 -- ---- the job of an answer
 
-unfoldable Known : Job → ℕ → Answer → Type 0
-Known job n (Plan s r) = judgeWith (wrongCapacity n) job ≡ Accepted
-Known job n (Refused v) = (1 ≤ verdictTold v .number) × SmallVerdict v
-Known job n Short = Unit {0}
-Known job n (NoPlan r) = judgeWith (wrongCapacity n) job ≡ Accepted
-Known job n (Full r) = judgeWith (wrongCapacity n) job ≡ Accepted
+unfoldable Known : Job → ℕ → Tables → Answer → Type 0
+Known job n ts (Plan s r) = judgeWith (wrongCapacity n) job ≡ Accepted
+Known job n ts (Refused v) = (1 ≤ verdictTold v .number) × (verdictTold v .number ≤ 6) × SmallVerdict v
+Known job n ts Short = (judgeWith (wrongCapacity n) job ≡ Accepted) × (shortTable job n ts ≡ true)
+Known job n ts (NoPlan r) = judgeWith (wrongCapacity n) job ≡ Accepted
+Known job n ts (Full r) = judgeWith (wrongCapacity n) job ≡ Accepted
 
-abbrev KnownOf : Job → ℕ → Result → Type 0
-KnownOf job n result = Known job n (result .answer)
+abbrev KnownOf : Job → ℕ → Tables → Result → Type 0
+KnownOf job n ts result = Known job n ts (result .answer)
 
 module _ (job : Job) (n : ℕ) (ts : Tables) where
-  searched-known : (o : Outcome Node) → judgeWith (wrongCapacity n) job ≡ Accepted → KnownOf job n (searched job n ts o)
+  searched-known : (o : Outcome Node) → judgeWith (wrongCapacity n) job ≡ Accepted → KnownOf job n ts (searched job n ts o)
   unfolding Known searched
   searched-known (done (some x) r) e = e
   searched-known (done none r) e = e
   searched-known (full r) e = e
 
-  enough-known : judgeWith (wrongCapacity n) job ≡ Accepted → KnownOf job n (enough job n ts)
+  enough-known : judgeWith (wrongCapacity n) job ≡ Accepted → KnownOf job n ts (enough job n ts)
   unfolding Known enough
-  enough-known e = go (shortTable job n ts)
+  enough-known e = go (shortTable job n ts) refl
     where
-      go : (b : Bool) → KnownOf job n (elim b [ true ↦ record { answer = Short; tables = ts } | false ↦ searched job n ts (tree job n) ])
-      go true = tt
-      go false = searched-known (tree job n) e
+      go : (b : Bool) → shortTable job n ts ≡ b → KnownOf job n ts (elim b [ true ↦ record { answer = Short; tables = ts } | false ↦ searched job n ts (tree job n) ])
+      go true s = (e, s)
+      go false s = searched-known (tree job n) e
 
-  known : KnownOf job n (planned job n ts)
+  known : KnownOf job n ts (planned job n ts)
   unfolding Known planned ifAccepted
   known = go (judgeWith (wrongCapacity n) job) refl (judged-small (wrongCapacity n) job)
     where
-      go : (v : Verdict) → judgeWith (wrongCapacity n) job ≡ v → SmallVerdict v → KnownOf job n (ifAccepted v (enough job n ts) (record { answer = Refused v; tables = ts }))
+      go : (v : Verdict) → judgeWith (wrongCapacity n) job ≡ v → SmallVerdict v → KnownOf job n ts (ifAccepted v (enough job n ts) (record { answer = Refused v; tables = ts }))
       go Accepted e f = enough-known e
-      go WrongGrid e f = (omega arith, f)
-      go WrongBytes e f = (omega arith, f)
-      go WrongLimits e f = (omega arith, f)
-      go WrongCount e f = (omega arith, f)
-      go (WrongEnds i) e f = (omega arith, f)
-      go (SharedEnds i j) e f = (omega arith, f)
+      go WrongGrid e f = (omega arith, omega arith, f)
+      go WrongBytes e f = (omega arith, omega arith, f)
+      go WrongLimits e f = (omega arith, omega arith, f)
+      go WrongCount e f = (omega arith, omega arith, f)
+      go (WrongEnds i) e f = (omega arith, omega arith, f)
+      go (SharedEnds i j) e f = (omega arith, omega arith, f)
+
+short-by : (job : Job) (n : ℕ) (ts : Tables) (answer : Answer) → Known job n ts answer → answerTold answer .number ≡ 7 → (judgeWith (wrongCapacity n) job ≡ Accepted) × (shortTable job n ts ≡ true)
+unfolding Known
+short-by job n ts (Plan s r) k is = absurd (omega arith)
+short-by job n ts (Refused v) k is = absurd (omega (arith, k .1))
+short-by job n ts Short k is = k
+short-by job n ts (NoPlan r) k is = absurd (omega arith)
+short-by job n ts (Full r) k is = absurd (omega arith)
+
+-- 7 comes of an accepted job and a table that is too short
+pub seven-short : (job : Job) (n : ℕ) (ts : Tables) → answerTold (planned job n ts .answer) .number ≡ 7 → (judgeWith (wrongCapacity n) job ≡ Accepted) × (shortTable job n ts ≡ true)
+seven-short job n ts = short-by job n ts (planned job n ts .answer) (known job n ts)
 
 -- ---- what is told of an accepted job
 
@@ -92,11 +104,11 @@ module _ (job : Job) (n : ℕ) (accepted : judgeWith (wrongCapacity n) job ≡ A
       (λ i l. omega (arith, cost-within job i (routeOf rs i) (family .lawful i l), facts .horizonMost)) in
       omega (arith, facts .countMost)
 
-answer-small : (job : Job) (n : ℕ) (ts : Tables) (answer : Answer) (after : Tables) → Promised job n ts answer after → Known job n answer → Small (answerTold answer)
+answer-small : (job : Job) (n : ℕ) (ts : Tables) (answer : Answer) (after : Tables) → Promised job n ts answer after → Known job n ts answer → Small (answerTold answer)
 unfolding Promised Known
 answer-small job n ts (Plan s r) after (rs, least, written, few) k =
     counted-small 0 s r (omega arith) (omega (arith, least .told, total-small job n k rs (least .plan .family))) (records-small job n k r few)
-answer-small job n ts (Refused v) after p k = k .1
+answer-small job n ts (Refused v) after p k = k .2
 answer-small job n ts Short after p k = bare-small 7 (omega arith)
 answer-small job n ts (NoPlan r) after p k = counted-small 8 0 r (omega arith) (omega arith) (records-small job n k r (p .1))
 answer-small job n ts (Full r) after p k = counted-small 9 0 r (omega arith) (omega arith) (records-small job n k r (omega (arith, p .0)))
@@ -116,7 +128,7 @@ pub record Found (job : Job) (n : ℕ) (ts : Tables) (answer : Answer) (after : 
   pub made : records ≤ n
   pub accepted : judgeWith (wrongCapacity n) job ≡ Accepted
 
-found : (job : Job) (n : ℕ) (ts : Tables) (answer : Answer) (after : Tables) → Promised job n ts answer after → Known job n answer → answerTold answer .number ≡ 0 → Found job n ts answer after
+found : (job : Job) (n : ℕ) (ts : Tables) (answer : Answer) (after : Tables) → Promised job n ts answer after → Known job n ts answer → answerTold answer .number ≡ 0 → Found job n ts answer after
 unfolding Promised Known
 found job n ts (Plan s r) after (rs, least, written, few) k is =
     record { routes = rs; sum = s; records = r; told = refl; least = least; written = written; made = few; accepted = k }

@@ -4,6 +4,7 @@ pub mod Fits
 pub mod Held
 pub mod LinesLaws
 pub mod PrintedLaws
+pub mod Program
 pub mod Settled
 pub mod Small
 pub mod Whole
