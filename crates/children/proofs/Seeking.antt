@@ -2,7 +2,6 @@
 -- does, and as many parts further on as carriers come before. Assumes nothing.
 use Prim.Native.Nat.{ℕ, _+_, _-_, _*_, _≤_, _<_}
 use native.Mathlib.Omega.{arith}
-use native.Mathlib.Nat.{mul-le-mul}
 use mathlib.Core.Path.{_≡_, refl, sym, ap, _∙_}
 use mathlib.Core.Bool.{true, false}
 use mathlib.Core.List.{List, _++_}
@@ -10,6 +9,7 @@ use mathlib.Core.Option.{Option, none, some}
 use lib.ListN.{length, getD, take, drop, length-take, length-drop, take-append-drop}
 use Rattle.lists.specs.Lists.{sumTo}
 use Rattle.job.specs.Job.{planLength}
+use Rattle.job.proofs.Accepted.{plan-small}
 use Rattle.routes.specs.Route.{cost, routeIn}
 use Rattle.routes.specs.Best.{bestRoute}
 use Rattle.routes.specs.declared.Bar.{Bar}
@@ -104,5 +104,5 @@ module _ (task : Task) (bytes : List ℕ) where
 pub sum-small : (task : Task) (plans : List ℕ) (x sum : ℕ) → task .team .count ≤ 8 → task .horizon ≤ 63 → sum ≡ sumIn task plans x → sum ≤ 512
 unfolding sumIn
 sum-small task plans x sum few near e =
-    let l : task .team .count * (task .horizon + 1) ≤ 512 = mul-le-mul {n₁ = task .team .count} {m₁ = task .horizon + 1} {n₂ = 8} {m₂ = 64} few (omega arith) in
+    let l : task .team .count * (task .horizon + 1) ≤ 512 = plan-small few near in
     omega (arith, costs-at-most (task .team .count) (task .horizon) (task .team .goals) (take (task .team .count * (task .horizon + 1)) (drop (x * (task .team .count * (task .horizon + 1))) plans)))

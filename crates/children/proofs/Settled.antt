@@ -6,29 +6,18 @@ use mathlib.Core.Path.{_≡_, refl, sym, ap, _∙_}
 use mathlib.Core.Bool.{Bool, true, false}
 use mathlib.Core.List.{List, []}
 use lib.ListN.{length}
-use Rattle.hall.specs.Hall.{size}
 use Rattle.routes.specs.Bars.{Barred}
 use Rattle.routes.specs.declared.Bar.{Bar}
 use Rattle.routes.specs.declared.Bar.the-variants.{Free}
-use Rattle.marks.specs.Marks.{SameFrom}
-use Rattle.marks.proofs.Settled.{layers-same}
-use Rattle.layers.specs.Layers.{Filled}
+use Rattle.layers.proofs.Settled.{filled-settled}
 use Rattle.tree.specs.Tree.{root, child}
 use Rattle.tables.specs.State.{nodeAt}
-use Rattle.tables.specs.Tables.{layersLength}
 use Rattle.tables.proofs.Settled.{write-record-settled}
 use Rattle.children.specs.declared.Task.{Task}
 use Rattle.children.specs.declared.Grown.{Grown}
 use Rattle.children.specs.declared.Grown.the-variants.{Nothing, Made, Full}
 use Rattle.children.specs.Steps.{jobOn, Kept, ChildFact, RootFact}
 use Rattle.children.specs.Written.{sumIn, ChildWritten, ChildTables, rootSum, RootTables}
-
--- filled alike, and alike past the least length
-layers-settled : (task : Task) (bytes layers : List ℕ) (bars : List Bar) (goal : ℕ) (a a′ : List ℕ) → Filled (jobOn task bytes .hall) bars goal (task .horizon) a → Filled (jobOn task bytes .hall) bars goal (task .horizon) a′ → SameFrom (layersLength (jobOn task bytes)) layers a → SameFrom (layersLength (jobOn task bytes)) layers a′ → a ≡ a′
-layers-settled task bytes layers bars goal a a′ f f′ k k′ =
-    layers-same (size (jobOn task bytes .hall)) (task .horizon) a a′ (λ t v l i. f .levels t v l i ∙ sym (f′ .levels t v l i))
-    (k .long ∙ sym (k′ .long))
-    (λ x l. k .rest x l ∙ sym (k′ .rest x l))
 
 not-none : {A : Type 0} (xs : List A) → xs ≡ [] → length xs ≡ 1 → ⊥
 not-none xs e f = omega (arith, f, ap length e)
@@ -66,7 +55,7 @@ module _ (task : Task) (bytes columns plans layers : List ℕ) (x : ℕ) (b : Ba
   add-child-settled g g′ c p l c′ p′ l′ a a′ =
       let answer = same-grown c p c′ p′ g g′ (a .grown) (a′ .grown) in
       let written = same-written c p c′ p′ g (a .tables .written) (rw (sym answer) at (a′ .tables .written)) in
-      (answer, written .0, written .1, layers-settled task bytes layers _ _ l l′ (a .tables .sought) (a′ .tables .sought) (a .kept .layers-kept) (a′ .kept .layers-kept))
+      (answer, written .0, written .1, filled-settled (jobOn task bytes .hall) _ _ (task .horizon) layers l l′ (a .tables .sought) (a′ .tables .sought) (a .kept .layers-kept) (a′ .kept .layers-kept))
 
 -- ---- the root
 
@@ -88,4 +77,4 @@ module _ (task : Task) (bytes columns plans layers : List ℕ) where
   make-root-settled r r′ c p l c′ p′ l′ a a′ =
       let answer = same-rooted c p c′ p′ r r′ (a .rooted) (a′ .rooted) in
       let same : p′ ≡ p = a′ .tables .routes ∙ sym (a .tables .routes) in
-      (answer, write-record-settled (task .capacity) columns 0 0 0 Free (rootSum task p r) c c′ (a .tables .written) (rw (same, sym answer) at (a′ .tables .written)), sym same, layers-settled task bytes layers _ _ l l′ (a .tables .sought) (a′ .tables .sought) (a .kept .layers-kept) (a′ .kept .layers-kept))
+      (answer, write-record-settled (task .capacity) columns 0 0 0 Free (rootSum task p r) c c′ (a .tables .written) (rw (same, sym answer) at (a′ .tables .written)), sym same, filled-settled (jobOn task bytes .hall) _ _ (task .horizon) layers l l′ (a .tables .sought) (a′ .tables .sought) (a .kept .layers-kept) (a′ .kept .layers-kept))

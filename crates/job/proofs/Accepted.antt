@@ -1,6 +1,7 @@
 -- What an accepted job is: each check in turn did not refuse, so each test of checks 1 to 6 fails, and a test that fails is a
 -- fact. Assumes nothing.
-use Prim.Native.Nat.{ℕ, suc, _-_, _*_, _≤_, _<_}
+use Prim.Native.Nat.{ℕ, suc, _+_, _-_, _*_, _≤_, _<_}
+use native.Mathlib.Nat.{mul-le-mul}
 use native.Mathlib.Omega.{arith}
 use mathlib.Core.Path.{_≡_, refl}
 use mathlib.Core.Logic.{_≢_}
@@ -142,3 +143,7 @@ accepted-facts wrongN job e =
       startsApart = starts-apart job (p .shared);
       goalsApart = goals-apart job (p .shared);
     }
+
+-- the bytes of a plan, m × (H + 1)
+pub plan-small : {m h : ℕ} → m ≤ 8 → h ≤ 63 → m * (h + 1) ≤ 512
+plan-small {m} {h} few late = let steps : h + 1 ≤ 64 = omega arith in mul-le-mul few steps

@@ -2,7 +2,6 @@
 -- than four digits, a cell has at most three, and 8 carriers have at most 64 cells each. So a page of 4,096 bytes takes it whole.
 -- Assumes nothing.
 use Prim.Native.Nat.{ℕ, zero, suc, _+_, _*_, _≤_, _<_}
-use native.Mathlib.Nat.{mul-le-mul}
 use native.Mathlib.Omega.{arith}
 use mathlib.Core.Bool.{Bool, true, false, cond, _||_}
 use mathlib.Core.List.{List, [], _∷_, _++_}
@@ -12,6 +11,7 @@ use lib.ListN.{length, getD, take, drop, length-append, length-take}
 use lib.Seq.{getD-take, take-at}
 use Rattle.lists.specs.Lists.{each}
 use Rattle.lists.proofs.Tests.{and-both}
+use Rattle.hall.proofs.HallCode.{area-small}
 use Rattle.hall.specs.Hall.{Hall, openByte, size, isOpen}
 use Rattle.job.specs.Job.{Job, wrongCapacity}
 use Rattle.job.specs.declared.Team.{Team}
@@ -32,7 +32,7 @@ use Rattle.text.proofs.TextLaws.{put-whole}
 use Rattle.lines.specs.Lines.{answerWord, sumWord, recordsWord, carrierWord, space, numberLine, pairLine, cellsText, costLine, carrierLine, carrierLines, planText, restText, toldText}
 use Rattle.lines.specs.Printed.{teamIn, jobIn, resultText, bookText, bookTables, Printed}
 use Rattle.lines.proofs.Answers.{cost-within, zero-found, told-small}
-use Rattle.lines.proofs.Held.{route-written}
+use Rattle.lines.proofs.Held.{route-held}
 use Rattle.lines.proofs.Small.{Small}
 
 -- ---- a line
@@ -71,7 +71,7 @@ cell-small : (hall : Hall) (v : ℕ) → hall .width ≤ 16 → hall .height ≤
 unfolding isOpen
 cell-small hall v wide high opens =
     let inside : v < size hall = ltb→lt v (size hall) (and-both (ltb v (size hall)) (eqb (getD (hall .bytes) v 0) openByte) opens .0) in
-    let most : size hall ≤ 256 = mul-le-mul wide high in
+    let most : size hall ≤ 256 = area-small wide high in
     omega arith
 
 lawful-fits : (wrongN : Bool) (job : Job) (i : ℕ) (r : List ℕ) → Facts wrongN job → i < job .count → Lawful job i r → length (carrierLine i (job .goalOf i) r) ≤ 283
@@ -95,7 +95,7 @@ plan-fits book n ts is =
     let family = f .least .plan .family in
     let fits : length (carrierLines (teamIn book) (horizonIn (bodyOf book 3)) (planned (jobIn book) n ts .tables .output) (teamIn book .count)) ≤ 283 * teamIn book .count =
     carriers-fit (teamIn book) (horizonIn (bodyOf book 3)) (planned (jobIn book) n ts .tables .output) (teamIn book .count)
-    (λ i l. rw (f .written, route-written (jobIn book) (f .routes) family (ts .output) i l) (lawful-fits (wrongCapacity n) (jobIn book) i (routeOf (f .routes) i) facts l (family .lawful i l))) in
+    (λ i l. rw (f .written, route-held (jobIn book) (f .routes) family (ts .output) i l) (lawful-fits (wrongCapacity n) (jobIn book) i (routeOf (f .routes) i) facts l (family .lawful i l))) in
     omega (arith, facts .countMost)
 
 -- ---- the whole text

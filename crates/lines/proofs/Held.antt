@@ -63,9 +63,9 @@ module _ (job : Job) (rs : Routes) (family : Family job rs) (output : List ℕ) 
       let long : length (each (λ r. r) rs) ≡ planLength job = joined-length (job .horizon + 1) rs even ∙ ap (λ (m : ℕ). m * (job .horizon + 1)) (family .all) in
       omega (arith, length-append (each (λ r. r) rs) (drop (planLength job) output))
 
-  pub route-written : (i : ℕ) → i < job .count → routeIn (job .horizon) (planWritten job rs output) i ≡ routeOf rs i
+  pub route-held : (i : ℕ) → i < job .count → routeIn (job .horizon) (planWritten job rs output) i ≡ routeOf rs i
   unfolding planWritten routeIn
-  route-written i l = joined-part (job .horizon + 1) rs i (drop (planLength job) output) even (omega (arith, family .all))
+  route-held i l = joined-part (job .horizon + 1) rs i (drop (planLength job) output) even (omega (arith, family .all))
 
 -- ---- the guard
 

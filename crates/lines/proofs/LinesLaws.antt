@@ -1,15 +1,15 @@
 -- Each line is written word after word: what the calls leave in a row is the line. Assumes nothing.
 use Prim.Native.Nat.{ℕ, _+_, _*_, _-_, _≤_, _<_}
-use native.Mathlib.Nat.{le-refl, le-trans, mul-le-mul}
 use native.Mathlib.Numerals.{add-one}
 use native.Mathlib.Omega.{arith}
 use mathlib.Core.Bool.{true, false}
-use mathlib.Core.List.{List, [], _∷_, _++_, append-nil, append-assoc}
-use mathlib.Core.Path.{_≡_, refl, sym, ap, _∙_}
+use mathlib.Core.List.{List, [], _∷_, _++_, append-nil}
+use mathlib.Core.Path.{_≡_, refl, ap, _∙_}
 use lib.ListN.{length, take, drop, getD}
 use lib.Seq.{take-suc, take-all}
 use borrow.Author.Tests.{lt-ltb, le-ltb, ne-eqb}
 use Rattle.lists.specs.Lists.{each}
+use Rattle.lists.proofs.Ranges.{each-append}
 use Rattle.job.specs.declared.Team.{Team}
 use Rattle.job.specs.declared.Told.{Told}
 use Rattle.routes.specs.Route.{cost, routeIn}
@@ -33,8 +33,7 @@ cell-put p q r v e f = simp (put-append, put-one) cc
 
 each-snoc : (f : ℕ → List ℕ) (xs : List ℕ) (v : ℕ) → each f (xs ++ (v ∷ [])) ≡ each f xs ++ f v
 unfolding each
-each-snoc f [] v = append-nil (f v)
-each-snoc f (x ∷ xs) v = ap (λ (ys : List ℕ). f x ++ ys) (each-snoc f xs v) ∙ sym (append-assoc (f x) (each f xs) (f v))
+each-snoc f xs v = each-append f xs (v ∷ []) ∙ ap (λ (ys : List ℕ). each f xs ++ ys) (append-nil (f v))
 
 pub cells-none : (p : Page) (cells : List ℕ) → p ≡ put p (cellsText (take 0 cells))
 unfolding put cellsText each
@@ -109,9 +108,6 @@ pub team-put : (p q : Page) (team : Team) (h : ℕ) (output : List ℕ) → team
 team-put p q team h output few soon long e = rw (plan-lines team h output (holds-plan team h output few soon long)) e
 
 -- the code multiplies at most 8 by at most 64
-pub product-small : (m h : ℕ) → m ≤ 8 → h ≤ 63 → m * (h + 1) ≤ 512
-product-small m h few soon = le-trans (mul-le-mul few (le-refl (h + 1))) (omega arith)
-
 -- ---- the lines by the number
 
 pub plan-put : (p q r s : Page) (told : Told) (team : Team) (h : ℕ) (output : List ℕ)

@@ -1,6 +1,6 @@
 -- The tables that the program lends are long enough for every accepted job with N = 128, so that it never prints 7: 8 columns of N
 -- records, N plans of 8 carriers and 64 steps, 64 layers of 256 cells, one plan. Assumes nothing.
-use Prim.Native.Nat.{ℕ, _+_, _*_, _≤_}
+use Prim.Native.Nat.{ℕ, _*_, _≤_}
 use native.Mathlib.Nat.{le-refl, mul-le-mul}
 use native.Mathlib.Omega.{arith}
 use mathlib.Core.Bool.{true, false, true≢false}
@@ -8,16 +8,15 @@ use mathlib.Core.List.{List}
 use mathlib.Core.Path.{_≡_, sym, _∙_}
 use lib.ListN.{length}
 use borrow.Author.Tests.{le-ltb}
-use Rattle.hall.specs.Hall.{size}
+use Rattle.hall.proofs.HallCode.{area-small, layers-small}
 use Rattle.job.specs.Job.{Job, planLength, wrongCapacity}
 use Rattle.job.specs.Verdict.{judgeWith}
 use Rattle.job.specs.declared.Verdict.the-variants.{Accepted}
-use Rattle.job.proofs.Accepted.{accepted-facts}
+use Rattle.job.proofs.Accepted.{accepted-facts, plan-small}
 use Rattle.tables.specs.Tables.{Tables, plansLength, layersLength, shortTable}
 use Rattle.planner.specs.Answer.{planned, answerTold}
 use Rattle.lines.specs.Printed.{jobIn}
 use Rattle.lines.proofs.Answers.{seven-short}
-use Rattle.lines.proofs.LinesLaws.{product-small}
 
 -- tables of at least the program's lengths
 pub record Roomy (ts : Tables) : Type 0 where
@@ -30,11 +29,9 @@ long-enough : (job : Job) (ts : Tables) → Roomy ts → judgeWith (wrongCapacit
 unfolding shortTable
 long-enough job ts room accepted =
     let facts = accepted-facts (wrongCapacity 128) job accepted in
-    let plan : planLength job ≤ 512 = product-small (job .count) (job .horizon) (facts .countMost) (facts .horizonMost) in
+    let plan : planLength job ≤ 512 = plan-small (facts .countMost) (facts .horizonMost) in
     let plans : plansLength job 128 ≤ 65536 = mul-le-mul (le-refl 128) plan in
-    let cells : size (job .hall) ≤ 256 = mul-le-mul (facts .widthMost) (facts .heightMost) in
-    let steps : job .horizon + 1 ≤ 64 = omega (arith, facts .horizonMost) in
-    let layers : layersLength job ≤ 16384 = mul-le-mul steps cells in
+    let layers : layersLength job ≤ 16384 = layers-small (facts .horizonMost) (area-small (facts .widthMost) (facts .heightMost)) in
     simp (
       le-ltb (length (ts .columns)) (8 * 128) (room .columns),
       le-ltb (length (ts .plans)) (plansLength job 128) (omega (arith, room .plans)),

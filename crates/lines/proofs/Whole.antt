@@ -23,7 +23,7 @@ use Rattle.planner.specs.declared.Answer.the-variants.{Plan}
 use Rattle.lines.specs.Lines.{answerWord, sumWord, recordsWord, numberLine, carrierLine, carrierLines, planText, restText, toldText}
 use Rattle.lines.specs.Printed.{teamIn, jobIn, resultText, bookText}
 use Rattle.lines.proofs.Answers.{cost-within, zero-found}
-use Rattle.lines.proofs.Held.{route-written}
+use Rattle.lines.proofs.Held.{route-held}
 
 -- the cells shown are those of the steps 0 to the cost, and none is wanting
 pub shown-to-cost : (job : Job) (i : ℕ) (r : List ℕ) → Lawful job i r → length (take (cost (job .goalOf i) r + 1) r) ≡ cost (job .goalOf i) r + 1
@@ -47,7 +47,7 @@ module _ (book : List ℕ) where
   written-lines rs output family =
       lines-each (teamIn book) (horizonIn (bodyOf book 3)) (planWritten (jobIn book) rs output) (teamIn book .count)
       ∙ each-same _ (λ i. carrierLine i (jobIn book .goalOf i) (routeOf rs i)) 0 (jobIn book .count)
-      (λ i a l. ap (carrierLine i (jobIn book .goalOf i)) (route-written (jobIn book) rs family output i (omega arith)))
+      (λ i a l. ap (carrierLine i (jobIn book .goalOf i)) (route-held (jobIn book) rs family output i (omega arith)))
 
   zero-text : (answer : Answer) (carriers : List ℕ) (s r : ℕ) → answer ≡ Plan s r → toldText (answerTold answer) carriers ≡ numberLine answerWord 0 ++ (numberLine sumWord s ++ numberLine recordsWord r ++ carriers)
   unfolding toldText restText planText

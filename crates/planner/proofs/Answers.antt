@@ -17,7 +17,7 @@ use Rattle.job.specs.Job.{Job, wrongCapacity}
 use Rattle.job.specs.Verdict.{judgeWith, ifAccepted}
 use Rattle.job.specs.declared.Verdict.{Verdict}
 use Rattle.job.specs.declared.Verdict.the-variants.{Accepted, WrongGrid, WrongBytes, WrongLimits, WrongCount, WrongEnds, SharedEnds}
-use Rattle.job.proofs.Accepted.{Facts, accepted-facts}
+use Rattle.job.proofs.Accepted.{Facts, accepted-facts, plan-small}
 use Rattle.job.proofs.Verdict.{the-type}
 use Rattle.tree.specs.Tree.{tree}
 use Rattle.tables.specs.Tables.{Tables, plansLength, layersLength, shortTable}
@@ -33,7 +33,7 @@ use Rattle.planner.proofs.Promises.{planned-promised}
 -- ---- the tests of answer 7
 
 pub plans-small : (count h capacity : ℕ) → count ≤ 8 → h ≤ 63 → capacity ≤ 1024 → capacity * (count * (h + 1)) ≤ 524288
-plans-small count h capacity l k m = let n : h + 1 ≤ 64 = omega arith in mul-le-mul m (mul-le-mul l n)
+plans-small count h capacity l k m = mul-le-mul m (plan-small l k)
 
 module _ (task : Task) (ts : Tables) where
   pub short-columns : length (ts .columns) < 8 * task .capacity → true ≡ shortTable (jobIn task) (task .capacity) ts

@@ -6,9 +6,9 @@ use mathlib.Core.Path.{_≡_, sym, ap, _∙_}
 use mathlib.Core.List.{List}
 use lib.ListN.{length, getD}
 use Rattle.lists.proofs.Parts.{same-entries}
-use Rattle.hall.specs.Hall.{Hall, size}
+use Rattle.hall.specs.Hall.{Hall}
 use Rattle.routes.specs.declared.Bar.{Bar}
-use Rattle.marks.proofs.Settled.{layers-same}
+use Rattle.layers.proofs.Settled.{filled-settled}
 use Rattle.route_bench.specs.Answer.{Answered}
 
 number-settled : (a b : ℕ) → ((a ≡ b → ⊥) → ⊥) → a ≡ b
@@ -27,8 +27,7 @@ module _ (right : Type 0) (hall : Hall) (bars : List Bar) (start goal h : ℕ) (
   filled-same y =
       let f = p .answers y in
       let g = q .answers y in
-      layers-same (size hall) h a a′ (λ t v l i. f .filled .levels t v l i ∙ sym (g .filled .levels t v l i)) (f .kept .long ∙ sym (g .kept .long))
-      (λ x l. f .kept .rest x l ∙ sym (g .kept .rest x l))
+      filled-settled hall bars goal h layers a a′ (f .filled) (g .filled) (f .kept) (g .kept)
 
   pub best-route-settled : (r ≡ r′) × (s ≡ s′) × (a ≡ a′)
   best-route-settled = (

@@ -1,7 +1,8 @@
 -- The tests that led to each return are those of the definition. Assumes nothing.
 use native.Mathlib.Omega.{arith}
+use Rattle.job.proofs.Accepted.{plan-small}
 use Rattle.text.specs.Text.{page}
-use Rattle.lines.proofs.LinesLaws.{team-many, team-late, team-short, team-put, product-small}
+use Rattle.lines.proofs.LinesLaws.{team-many, team-late, team-short, team-put}
 use borrow.Author.Needs.{needs}
 use Rattle.lines.proofs.put_team.Statement.{statement}
 use Rattle.lines.proofs.put_team.Tie as tie
@@ -16,7 +17,7 @@ add-if3 : tie.Need-add-if3
 add-if3 c = search needs
 
 mul-if3 : tie.Need-mul-if3
-mul-if3 c = let p = product-small (c .before .before .before .before .before .before .args .team .count) (c .before .before .before .before .before .before .args .h) (c .before .before .if1 .left) (c .before .if2 .left) in omega arith
+mul-if3 c = let p = plan-small {m = c .before .before .before .before .before .before .args .team .count} {h = c .before .before .before .before .before .before .args .h} (c .before .before .if1 .left) (c .before .if2 .left) in omega arith
 
 returns-3 : tie.Need-returns-3
 returns-3 c = team-short (page (c .before .before .before .before .before .before .before .args .out .now) (c .before .before .before .before .before .before .before .args .at)) (c .before .before .before .before .before .before .before .args .team) (c .before .before .before .before .before .before .before .args .h) (c .before .before .before .before .before .before .before .args .output .now) (c .before .before .before .if1 .left) (c .before .before .if2 .left) (c .if3 .taken)
