@@ -8,13 +8,13 @@ use mathlib.Core.List.{List}
 use mathlib.Core.Option.{some}
 use lib.ListN.{length, take, drop}
 use lib.Seq.{paste}
+use Rattle.lent.proofs.Keeping.{same-from}
 use Rattle.job.specs.Job.{Job, planLength}
 use Rattle.routes.specs.Bars.{Barred}
 use Rattle.routes.specs.declared.Bar.{Bar}
 use Rattle.routes.specs.declared.Bar.the-variants.{Free, Stay, Cross}
 use Rattle.records.specs.Columns.{isBar}
 use Rattle.marks.specs.Marks.{boundBy}
-use Rattle.marks.proofs.Places.{same-from}
 use Rattle.tables.specs.State.{Sound}
 use Rattle.tables.specs.Tables.{plansLength}
 use Rattle.tables.specs.Post.{Room, BarFits, Fitting, Recorded}

@@ -7,13 +7,14 @@ use mathlib.Core.Bool.{Bool, true, false}
 use mathlib.Core.List.{List, []}
 use mathlib.Core.Option.{some}
 use lib.ListN.{length, getD}
+use Rattle.lent.proofs.Keeping.{same-from, same-then}
+use Rattle.lent.specs.Lent.{SameFrom}
 use Rattle.job.specs.Job.{Job}
 use Rattle.routes.specs.Route.{routeIn}
 use Rattle.routes.specs.Bars.{barsFor}
 use Rattle.routes.specs.declared.Bar.the-variants.{Free}
 use Rattle.records.specs.Columns.{barAt}
-use Rattle.marks.specs.Marks.{boundBy, SameFrom}
-use Rattle.marks.proofs.Places.{same-from, same-then}
+use Rattle.marks.specs.Marks.{boundBy}
 use Rattle.layers.proofs.SeekLaws.{free-filled}
 use Rattle.tree.specs.Plan.{routeOf}
 use Rattle.tree.specs.Tree.{routeUnder}

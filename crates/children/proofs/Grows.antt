@@ -8,14 +8,15 @@ use mathlib.Core.List.{List, [], _∷_, _++_}
 use mathlib.Core.Option.{some, none}
 use lib.ListN.{length, take, drop, set, length-take, length-drop}
 use Rattle.lists.specs.Lists.{only}
+use Rattle.lent.proofs.Keeping.{same-then}
+use Rattle.lent.specs.Lent.{SameFrom}
 use Rattle.job.specs.Job.{Job, planLength}
 use Rattle.routes.specs.Bars.{Barred}
 use Rattle.routes.specs.Best.{bestRoute}
 use Rattle.routes.specs.declared.Bar.{Bar}
 use Rattle.records.specs.Columns.{parentAt, isBar, ownBars, chainOf}
 use Rattle.records.proofs.Chain.{chain-up, chain-same}
-use Rattle.marks.specs.Marks.{boundBy, SameFrom}
-use Rattle.marks.proofs.Places.{same-then}
+use Rattle.marks.specs.Marks.{boundBy}
 use Rattle.tree.specs.Tree.{Node, nodeSum, child, childWith}
 use Rattle.tables.specs.State.{routesIn, stretchAt, nodeAt, live, Sound}
 use Rattle.tables.specs.Post.{Recorded}

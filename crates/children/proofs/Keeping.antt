@@ -6,12 +6,12 @@ use mathlib.Core.List.{List}
 use mathlib.Core.Option.{Option, none, some}
 use lib.ListN.{length, getD, drop}
 use lib.Seq.{paste, getD-drop}
+use Rattle.lent.proofs.Keeping.{same-from}
+use Rattle.lent.specs.Lent.{SameFrom}
 use Rattle.job.specs.Job.{Job, planLength}
 use Rattle.routes.specs.declared.Bar.{Bar}
 use Rattle.routes.specs.Best.{bestRoute}
 use Rattle.records.specs.Columns.{Falls}
-use Rattle.marks.specs.Marks.{SameFrom}
-use Rattle.marks.proofs.Places.{same-from}
 use Rattle.tables.specs.State.{Sound}
 use Rattle.tables.specs.Post.{Recorded}
 use Rattle.lists.proofs.Parts.{part-within, written, written-length, written-above, paste-written}

@@ -7,9 +7,9 @@ use mathlib.Core.Bool.{Bool, true, false}
 use mathlib.Core.List.{List, [], _∷_}
 use lib.ListN.{length}
 use Rattle.lists.specs.Lists.{range, each}
+use Rattle.lent.proofs.Keeping.{same-then}
 use Rattle.routes.specs.declared.Bar.the-variants.{Free}
 use Rattle.records.specs.Columns.{barAt}
-use Rattle.marks.proofs.Places.{same-then}
 use Rattle.tree.specs.Tree.{root, rootOf}
 use Rattle.tables.specs.State.{nodeAt, live, Sound}
 use Rattle.tables.specs.Tables.{plansLength}

@@ -8,12 +8,13 @@ use mathlib.Core.List.{List, _++_}
 use mathlib.Core.Option.{Option, none, some}
 use lib.ListN.{length, getD, take, drop, length-take, length-drop, take-append-drop}
 use Rattle.lists.specs.Lists.{sumTo}
+use Rattle.lent.specs.Lent.{SameFrom}
 use Rattle.job.specs.Job.{planLength}
 use Rattle.job.proofs.Accepted.{plan-small}
 use Rattle.routes.specs.Route.{cost, routeIn}
 use Rattle.routes.specs.Best.{bestRoute}
 use Rattle.routes.specs.declared.Bar.{Bar}
-use Rattle.marks.specs.Marks.{boundBy, SameFrom}
+use Rattle.marks.specs.Marks.{boundBy}
 use Rattle.marks.specs.Post.{Layered}
 use Rattle.layers.specs.Layers.{routeFrom, soughtOf, writtenRoute}
 use Rattle.layers.specs.declared.Sought.{Sought}

@@ -5,11 +5,11 @@ use mathlib.Core.Path.{_≡_}
 use mathlib.Core.Bool.{Bool, true, false}
 use mathlib.Core.List.{List, []}
 use mathlib.Core.Option.{none, some}
+use Rattle.lent.specs.Lent.{SameFrom}
 use Rattle.job.specs.Job.{Job}
 use Rattle.routes.specs.Bars.{Barred}
 use Rattle.routes.specs.declared.Bar.{Bar}
 use Rattle.records.specs.Columns.{isBar}
-use Rattle.marks.specs.Marks.{SameFrom}
 use Rattle.tree.specs.Tree.{routeUnder, freeRoutes}
 use Rattle.tables.specs.State.{routesIn, stretchAt, Sound}
 use Rattle.tables.specs.Post.{BarFits}

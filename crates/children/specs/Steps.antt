@@ -5,12 +5,12 @@ use mathlib.Core.Path.{_≡_}
 use mathlib.Core.Bool.{Bool, true, false}
 use mathlib.Core.List.{List, [], _++_}
 use lib.ListN.{length, getD}
+use Rattle.lent.specs.Lent.{SameFrom}
 use Rattle.job.specs.Job.{Job}
 use Rattle.job.specs.Team.{jobOf}
 use Rattle.routes.specs.Bars.{Barred}
 use Rattle.routes.specs.declared.Bar.{Bar}
 use Rattle.routes.specs.declared.Bar.the-variants.{Free, Stay, Cross}
-use Rattle.marks.specs.Marks.{SameFrom}
 use Rattle.tree.specs.Tree.{root, child}
 use Rattle.tables.specs.State.{nodeAt, live, Sound}
 use Rattle.tables.specs.Tables.{columnsLength, plansLength, layersLength}

@@ -140,7 +140,7 @@ fn make_child(
     ensures { λ r. ⌜ ChildMade task (now (hall .entry)) node (record { carrier = carrier; bar = bar }) made (now (columns .entry)) (now (plans .entry)) (now (columns .exit)) (now (plans .exit)) ⌝ }
 {
     let size = stretch_of(task);
-    tables::copy_stretch(plans, node * size, made * size, size);
+    lent::copy_stretch(plans, node * size, made * size, size);
     put_route(hall, task, node, carrier, bar, columns, layers, made, plans);
     let sum = sum_at(task, made, plans);
     tables::write_record(columns, task.capacity, made, node, carrier, bar, sum);

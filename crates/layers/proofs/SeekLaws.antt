@@ -8,13 +8,14 @@ use mathlib.Core.List.{List, _∷_}
 use mathlib.Core.Option.{Option, none, some}
 use lib.ListN.{getD}
 use Rattle.lists.specs.Lists.{anyOf}
+use Rattle.lent.specs.Lent.{SameFrom}
 use Rattle.hall.specs.Hall.{Hall, size}
 use Rattle.job.specs.Job.{Job}
 use Rattle.routes.specs.Bars.{barsCell, barsWay, mayStand, mayTurn}
 use Rattle.routes.specs.Best.{bestRoute}
 use Rattle.routes.specs.declared.Bar.{Bar}
 use Rattle.routes.specs.declared.Bar.the-variants.{Free}
-use Rattle.marks.specs.Marks.{SameFrom, barsMove, markOf}
+use Rattle.marks.specs.Marks.{barsMove, markOf}
 use Rattle.marks.specs.Post.{MarkedAll}
 use Rattle.layers.specs.Layers.{wayFrom, routeFrom, soughtOf, levelOf, byteAt, Filled}
 use Rattle.layers.specs.Fill.{Levelled}

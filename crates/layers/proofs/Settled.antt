@@ -3,9 +3,9 @@
 use Prim.Native.Nat.{ℕ, _+_, _*_}
 use mathlib.Core.Path.{_≡_, sym, _∙_}
 use mathlib.Core.List.{List}
+use Rattle.lent.specs.Lent.{SameFrom}
 use Rattle.hall.specs.Hall.{Hall, size}
 use Rattle.routes.specs.declared.Bar.{Bar}
-use Rattle.marks.specs.Marks.{SameFrom}
 use Rattle.marks.proofs.Settled.{layers-same}
 use Rattle.layers.specs.Layers.{Filled}
 use Rattle.layers.specs.Post.{SoughtRoute}

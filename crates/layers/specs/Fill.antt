@@ -7,10 +7,11 @@ use mathlib.Core.List.{List, [], _∷_, map}
 use lib.Dec.{eqb, leb, ltb}
 use lib.ListN.{length, getD}
 use Rattle.lists.specs.Lists.{range, each, sumTo}
+use Rattle.lent.specs.Lent.{SameFrom}
 use Rattle.hall.specs.Hall.{Hall, size, isOpen}
 use Rattle.hall.specs.Moves.{rowChanges, colChanges, rowAfter, colAfter, onGrid, landing, moveCount}
 use Rattle.routes.specs.Route.{stepCost}
-use Rattle.marks.specs.Marks.{digit, SameFrom}
+use Rattle.marks.specs.Marks.{digit}
 use Rattle.layers.specs.Layers.{crossingStarts}
 
 -- the hall of the bytes that are lent

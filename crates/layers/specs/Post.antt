@@ -2,9 +2,9 @@
 use Prim.Native.Nat.{ℕ, _+_, _*_}
 use mathlib.Core.Path.{_≡_}
 use mathlib.Core.List.{List}
+use Rattle.lent.specs.Lent.{SameFrom}
 use Rattle.hall.specs.Hall.{Hall, size}
 use Rattle.routes.specs.declared.Bar.{Bar}
-use Rattle.marks.specs.Marks.{SameFrom}
 use Rattle.layers.specs.Layers.{routeFrom, soughtOf, Filled}
 use Rattle.layers.specs.declared.Sought.{Sought}
 

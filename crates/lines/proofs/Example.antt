@@ -5,6 +5,7 @@ use mathlib.Core.List.{List, [], _∷_}
 use mathlib.Core.Path.{_≡_, refl}
 use lib.ListN.{replicate}
 use Rattle.lists.specs.Lists.{range, sumTo, only, keep, anyOf, firstOf, each, refuseIf}
+use Rattle.lent.specs.Lent.{zeroed}
 use Rattle.hall.specs.Hall.{wrongSide, wrongGrid, wrongByte, wrongBytes, isOpen}
 use Rattle.hall.specs.Moves.{onGrid, cellAt, landing, reachFrom, reach}
 use Rattle.job.specs.Job.{wrongLimits, wrongCapacity, wrongCount, wrongEnds, firstWrong, share, pairs, firstShared}
@@ -16,7 +17,7 @@ use Rattle.clashes.specs.Chosen.{written, meets, swaps, happens, overPairs, atS
 use Rattle.search.specs.Search.{prefer, takeLeast, run, search}
 use Rattle.tree.specs.Plan.{total}
 use Rattle.tree.specs.Tree.{routeUnder, withRoute, freeRoutes, rootOf, root, nodeSum, clashOf, isClear, nodeClear, barOne, barTwo, childWith, child, kidsFor, kids, tree}
-use Rattle.tables.specs.Tables.{Tables, shortTable, zeroed, workedOn, planWritten, withPlan}
+use Rattle.tables.specs.Tables.{Tables, shortTable, workedOn, planWritten, withPlan}
 use Rattle.planner.specs.Answer.{searched, enough, planned}
 use Rattle.book.specs.Book.{lowHigh, entryKind, entryOffset, entryLength, entryBody, noContents, wrongKinds, wrongBodies, wrongLengths, bookVerdict, noKind, ifGood, askedVerdict, bodyOf}
 use Rattle.book.specs.Parts.{widthIn, heightIn, hallIn, delayIn, horizonIn}

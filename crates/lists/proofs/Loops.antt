@@ -2,7 +2,8 @@
 -- at a time. Assumes nothing.
 use Prim.Native.Nat.{ℕ, suc, _+_, _-_, _≤_, _<_}
 use native.Mathlib.Numerals.{add-one}
-use mathlib.Core.Path.{_≡_}
+use native.Mathlib.Omega.{arith}
+use mathlib.Core.Path.{_≡_, ap, _∙_}
 use mathlib.Core.Bool.{Bool, true, false, _||_}
 use mathlib.Core.List.{List, map}
 use mathlib.Core.Option.{none, some}
@@ -79,3 +80,7 @@ module _ {A : Type 0} (p : A → Bool) (f : ℕ → A) (i n : ℕ) where
   pub first-map-done : n ≤ i → firstOf p (map f (range i (n - i))) ≡ none
   unfolding firstOf
   first-map-done h = rw (range-done i n h)
+
+-- a loop's count has come to its end
+pub at-end : {A : Type 0} (f : ℕ → A) (x : A) (i n : ℕ) → i ≤ n → n ≤ i → x ≡ f i → x ≡ f n
+at-end f x i n l k e = let s : i ≡ n = omega arith in e ∙ ap f s

@@ -9,6 +9,7 @@ use mathlib.Core.List.{List, [], _∷_}
 use lib.ListN.{length, getD, set}
 use lib.Seq.{getD-set-same, getD-set-other}
 use Rattle.lists.proofs.Parts.{same-part, same-place}
+use Rattle.lent.proofs.Keeping.{same-from, same-set}
 use Rattle.hall.specs.Moves.{moveCount}
 use Rattle.routes.specs.declared.Bar.{Bar}
 use Rattle.routes.specs.declared.Bar.the-variants.{Cross}
@@ -16,7 +17,7 @@ use Rattle.marks.specs.Marks.{markOf, Marked}
 use Rattle.marks.specs.Post.{Layered, MarkedMore, MoveTo, leads, withDigit}
 use Rattle.marks.proofs.Marking.{mark-crossed, mark-not-crossed, mark-far}
 use Rattle.marks.proofs.OneMove.{others-lead-not}
-use Rattle.marks.proofs.Places.{Bounds, bounds, same-from, same-set}
+use Rattle.marks.proofs.Places.{Bounds, bounds}
 
 -- ---- looking for the move
 

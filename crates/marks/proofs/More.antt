@@ -2,24 +2,42 @@
 -- its parent's. Assumes nothing.
 use Prim.Native.Nat.{ℕ, _+_, _*_}
 use native.Mathlib.Omega.{arith}
-use mathlib.Core.Path.{_≡_, sym, subst, _∙_}
+use mathlib.Core.Path.{_≡_, sym, ap, subst, _∙_}
 use mathlib.Core.List.{List, [], _∷_, _++_, append-assoc, append-nil}
-use lib.ListN.{length}
+use lib.ListN.{length, getD}
 use Rattle.lists.specs.Lists.{only}
+use Rattle.lent.specs.Lent.{zeroed, SameFrom}
+use Rattle.lent.proofs.Keeping.{same-from, same-then, zeroed-kept, zeroed-zero}
 use Rattle.routes.specs.Bars.{barsFor}
 use Rattle.routes.specs.declared.Bar.{Bar}
 use Rattle.routes.specs.declared.Bar.the-variants.{Free, Stay, Cross}
 use Rattle.records.specs.Columns.{entry, parentAt, barAt, isBar, ownBars, chainOf, Falls}
 use Rattle.records.proofs.Own.{own-binds, other-binds-not, chain-binds, root-binds}
 use Rattle.marks.specs.Marks.{Marked, boundBy}
-use Rattle.marks.specs.Post.{Layered, Cleared, MarkedMore, MarkedAll}
+use Rattle.marks.specs.Post.{Layered, MarkedMore, MarkedAll}
 use Rattle.marks.proofs.Marking.{mark-none, mark-free}
-use Rattle.marks.proofs.Places.{bounds, same-from, same-then}
+use Rattle.marks.proofs.Places.{bounds}
 
 module _ (width height h : ℕ) where
   -- the layers after a marker serve the next as they did it
   pub still-layered : (before after : List ℕ) → length after ≡ length before → Layered width height h before → Layered width height h after
   still-layered before after e l = record { some = l .some; wide = l .wide; high = l .high; late = l .late; room = rw e (l .room) }
+
+  -- ---- cleared layers
+
+  pub cleared-kept : (before xs : List ℕ) → Layered width height h before → xs ≡ zeroed ((h + 1) * (width * height)) before → SameFrom ((h + 1) * (width * height)) before xs
+  cleared-kept before xs l e = subst (SameFrom ((h + 1) * (width * height)) before) (sym e) (zeroed-kept ((h + 1) * (width * height)) before (l .room))
+
+  cleared-marked : (before xs : List ℕ) → Layered width height h before → xs ≡ zeroed ((h + 1) * (width * height)) before → Marked width height [] h xs
+  cleared-marked before xs l e =
+      record {
+        marks = λ t v k i.
+            ap (λ (ys : List ℕ). getD ys (t * (width * height) + v) 0) e
+            ∙ zeroed-zero ((h + 1) * (width * height)) (t * (width * height) + v) before (bounds width height h t v before l k i .below)
+            ∙ sym (mark-none width height t v);
+      }
+
+  -- ---- some bars more
 
   pub more-none : (xs : List ℕ) → MarkedMore width height h [] xs xs
   more-none xs = record { marked = λ bars m. m; kept = same-from ((h + 1) * (width * height)) xs }
@@ -72,20 +90,12 @@ module _ (width height h : ℕ) where
 
     -- ---- all bars
 
-    cleared-marked : (before xs : List ℕ) → Layered width height h before → Cleared ((h + 1) * (width * height)) before xs → Marked width height [] h xs
-    cleared-marked before xs l c =
-        record {
-          marks = λ t v k i.
-              c .zeros (t * (width * height) + v) (bounds width height h t v before l k i .below)
-              ∙ sym (mark-none width height t v);
-        }
-
-    pub all-marked : (b : Bar) (before xs ys zs : List ℕ) → Layered width height h before → Cleared ((h + 1) * (width * height)) before xs → MarkedMore width height h (barsFor carrier (chainOf capacity columns x)) xs ys → MarkedMore width height h (b ∷ []) ys zs → MarkedAll width height h (boundBy capacity columns x carrier b) before zs
+    pub all-marked : (b : Bar) (before xs ys zs : List ℕ) → Layered width height h before → xs ≡ zeroed ((h + 1) * (width * height)) before → MarkedMore width height h (barsFor carrier (chainOf capacity columns x)) xs ys → MarkedMore width height h (b ∷ []) ys zs → MarkedAll width height h (boundBy capacity columns x carrier b) before zs
     unfolding boundBy
     all-marked b before xs ys zs l c f g =
         let chain = barsFor carrier (chainOf capacity columns x) in
         let m : Marked width height chain h ys = subst (λ l. Marked width height l h ys) (append-nil chain) (f .marked [] (cleared-marked before xs l c)) in
         record {
           marked = g .marked chain m;
-          kept = same-then ((h + 1) * (width * height)) before ys zs (same-then ((h + 1) * (width * height)) before xs ys (c .kept) (f .kept)) (g .kept);
+          kept = same-then ((h + 1) * (width * height)) before ys zs (same-then ((h + 1) * (width * height)) before xs ys (cleared-kept before xs l c) (f .kept)) (g .kept);
         }

@@ -2,14 +2,10 @@
 use Prim.Native.Nat.{ℕ, _+_, _*_, _≤_, _<_}
 use native.Mathlib.Nat.{mul-le-mul}
 use native.Mathlib.Omega.{arith}
-use native.Mathlib.Decide.{ℕ-discrete}
-use mathlib.Core.Path.{_≡_, refl, _∙_}
 use mathlib.Core.List.{List}
 use lib.Arith.{digits-lt}
-use lib.ListN.{length, getD, set, length-set}
-use lib.Seq.{getD-set-same, getD-set-other}
+use lib.ListN.{length}
 use Rattle.hall.proofs.HallCode.{area-small, layers-small}
-use Rattle.marks.specs.Marks.{SameFrom}
 use Rattle.marks.specs.Post.{Layered}
 
 -- one record of bounds for every sum, product and index of the markers
@@ -37,30 +33,3 @@ bounds width height h t v layers l k i =
       below = below;
       inside = omega arith;
     }
-
--- ---- what a table keeps
-
-pub same-from : (n : ℕ) (xs : List ℕ) → SameFrom n xs xs
-same-from n xs = record { long = refl; rest = λ x h. refl }
-
-pub same-then : (n : ℕ) (xs ys zs : List ℕ) → SameFrom n xs ys → SameFrom n ys zs → SameFrom n xs zs
-same-then n xs ys zs a b = record { long = b .long ∙ a .long; rest = λ x h. b .rest x h ∙ a .rest x h }
-
-pub same-set : (n : ℕ) (xs ys : List ℕ) (i a : ℕ) → i < n → SameFrom n xs ys → SameFrom n xs (set ys i a)
-same-set n xs ys i a l s =
-    record {
-      long = length-set ys i a ∙ s .long;
-      rest = λ x h. getD-set-other ys i x a 0 (λ e. omega arith) ∙ s .rest x h;
-    }
-
--- ---- a stretch of zeros
-
-pub zeros-none : (xs : List ℕ) (x : ℕ) → x < 0 → getD xs x 0 ≡ 0
-zeros-none xs x h = absurd (omega arith)
-
-pub zeros-more : (xs : List ℕ) (i : ℕ) → i < length xs → ((x : ℕ) → x < i → getD xs x 0 ≡ 0) → (x : ℕ) → x < i + 1 → getD (set xs i 0) x 0 ≡ 0
-zeros-more xs i l z x h =
-    elim (ℕ-discrete x i) [
-      | yes e ↦ rw e (getD-set-same xs i 0 0 l)
-      | no n ↦ getD-set-other xs i x 0 0 n ∙ z x (omega (arith, n))
-    ]

@@ -8,12 +8,13 @@ use mathlib.Core.List.{List, [], _∷_}
 use lib.ListN.{length, getD, set}
 use lib.Seq.{getD-set-same, getD-set-other}
 use Rattle.lists.proofs.Parts.{same-part, same-place}
+use Rattle.lent.proofs.Keeping.{same-from}
+use Rattle.lent.specs.Lent.{SameFrom}
 use Rattle.routes.specs.declared.Bar.{Bar}
 use Rattle.routes.specs.declared.Bar.the-variants.{Stay}
-use Rattle.marks.specs.Marks.{markOf, SameFrom}
+use Rattle.marks.specs.Marks.{markOf}
 use Rattle.marks.specs.Post.{MarkedMore}
 use Rattle.marks.proofs.Marking.{mark-stayed, mark-not-stayed}
-use Rattle.marks.proofs.Places.{same-from}
 
 -- steps a up to t, t not among them
 pub record Stayed (size cell a t : ℕ) (before after : List ℕ) : Type 0 where

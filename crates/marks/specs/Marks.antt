@@ -4,7 +4,7 @@ use Prim.Native.Nat.{ℕ, _+_, _*_, _/_, _%_, _^_, _≤_, _<_}
 use mathlib.Core.Path.{_≡_}
 use mathlib.Core.Bool.{Bool, true, false}
 use mathlib.Core.List.{List, _∷_}
-use lib.ListN.{length, getD}
+use lib.ListN.{getD}
 use Rattle.lists.specs.Lists.{anyOf, sumTo}
 use Rattle.hall.specs.Moves.{landing, moveCount}
 use Rattle.routes.specs.Bars.{barsFor, barsCell, barsWay}
@@ -29,8 +29,3 @@ markOf width height bars t v = elim (anyOf (barsCell t v) bars) [ true ↦ 255 |
 
 pub record Marked (width height : ℕ) (bars : List Bar) (h : ℕ) (layers : List ℕ) : Type 0 where
   pub marks : (t v : ℕ) → t ≤ h → v < width * height → getD layers (t * (width * height) + v) 0 ≡ markOf width height bars t v
-
--- the same length, and the same entries from n on: what a table keeps
-pub record SameFrom (n : ℕ) (before after : List ℕ) : Type 0 where
-  pub long : length after ≡ length before
-  pub rest : (x : ℕ) → n ≤ x → getD after x 0 ≡ getD before x 0

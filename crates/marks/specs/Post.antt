@@ -4,11 +4,12 @@ use mathlib.Core.Path.{_≡_}
 use mathlib.Core.Bool.{Bool, true, false}
 use mathlib.Core.List.{List, _++_}
 use lib.Dec.{eqb}
-use lib.ListN.{length, getD}
+use lib.ListN.{length}
 use Rattle.lists.specs.Lists.{anyOf}
+use Rattle.lent.specs.Lent.{SameFrom}
 use Rattle.hall.specs.Moves.{landing, moveCount}
 use Rattle.routes.specs.declared.Bar.{Bar}
-use Rattle.marks.specs.Marks.{Marked, SameFrom}
+use Rattle.marks.specs.Marks.{Marked}
 
 -- layers with a byte for each step up to h and each cell of a hall
 pub record Layered (width height h : ℕ) (layers : List ℕ) : Type 0 where
@@ -17,10 +18,6 @@ pub record Layered (width height h : ℕ) (layers : List ℕ) : Type 0 where
   pub high : height ≤ 16
   pub late : h ≤ 63
   pub room : (h + 1) * (width * height) ≤ length layers
-
-pub record Cleared (n : ℕ) (before after : List ℕ) : Type 0 where
-  pub zeros : (x : ℕ) → x < n → getD after x 0 ≡ 0
-  pub kept : SameFrom n before after
 
 pub record MarkedMore (width height h : ℕ) (more : List Bar) (before after : List ℕ) : Type 0 where
   pub marked : (bars : List Bar) → Marked width height bars h before → Marked width height (more ++ bars) h after

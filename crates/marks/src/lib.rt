@@ -8,22 +8,10 @@ ghost use Rattle.routes.specs.Bars.{barsFor};
 ghost use Rattle.routes.specs.declared.Bar.the-variants.{Stay, Cross};
 ghost use Rattle.records.specs.Columns.{ownBars, chainOf, Falls};
 ghost use Rattle.marks.specs.Marks.{boundBy};
-ghost use Rattle.marks.specs.Post.{Layered, Cleared, MarkedMore, MarkedAll, MoveTo, withDigit};
+ghost use Rattle.marks.specs.Post.{Layered, MarkedMore, MarkedAll, MoveTo, withDigit};
 
 // The mark of a cell that is barred at a step.
 pub const BARRED: u8 = 255;
-
-// The first n bytes to zero.
-fn clear(layers: &mut [u8], n: usize)
-    requires { ⌜ n ≤ length (now layers) ⌝ }
-    ensures { λ r. ⌜ Cleared n (now (layers .entry)) (now (layers .exit)) ⌝ }
-{
-    let mut i = 0;
-    while i < n {
-        layers[i] = 0;
-        i += 1;
-    }
-}
 
 // The lesser of two numbers.
 fn lesser(a: usize, b: usize) -> usize
@@ -197,7 +185,7 @@ pub fn mark_all(
     requires { ⌜ Layered width height h (now layers) × Falls capacity (now columns) node ⌝ }
     ensures { λ r. ⌜ MarkedAll width height h (boundBy capacity (now (columns .entry)) node carrier bar) (now (layers .entry)) (now (layers .exit)) ⌝ }
 {
-    clear(layers, (h + 1) * (width * height));
+    lent::clear_bytes(layers, (h + 1) * (width * height));
     mark_up(layers, width, height, h, columns, capacity, node, carrier);
     mark_bar(layers, width, height, h, bar);
 }

@@ -3,6 +3,7 @@
 use mathlib.Core.Path.{_≡_, refl}
 use mathlib.Core.List.{_∷_, map, head-eq-of-cons-eq, tail-eq-of-cons-eq}
 use Rattle.lists.specs.Lists.{range, sumTo, only, keep, anyOf, firstOf, each, refuseIf}
+use Rattle.lent.specs.Lent.{zeroed}
 use Rattle.hall.specs.Hall.{wrongSide, wrongGrid, wrongByte, wrongBytes, isOpen}
 use Rattle.hall.specs.Moves.{onGrid, cellAt, landing, reachFrom, reach}
 use Rattle.job.specs.Job.{wrongLimits, wrongCapacity, wrongCount, wrongEnds, firstWrong, share, pairs, firstShared}
@@ -13,7 +14,7 @@ use Rattle.routes.specs.Best.{cheaper, better, bestOf, inFront, bestWay, bestRo
 use Rattle.clashes.specs.Chosen.{written, meets, swaps, happens, overPairs, atStep, candidates, orClear, chosen}
 use Rattle.search.specs.Search.{prefer, takeLeast, run, search}
 use Rattle.tree.specs.Plan.{total}
-use Rattle.tables.specs.Tables.{shortTable, zeroed, workedOn, planWritten, withPlan}
+use Rattle.tables.specs.Tables.{shortTable, workedOn, planWritten, withPlan}
 use Rattle.tree.specs.Tree.{routeUnder, withRoute, freeRoutes, rootOf, root, nodeSum, clashOf, isClear, nodeClear, barOne, barTwo, childWith, child, kidsFor, kids, tree}
 use Rattle.planner.specs.Answer.{searched, enough, planned}
 use Rattle.planner.specs.Stars.{asked, given, stars, lastJob}

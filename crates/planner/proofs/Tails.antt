@@ -2,23 +2,14 @@
 -- step, and at the end a table cleared is the table at entry cleared. Assumes nothing.
 use Prim.Native.Nat.{ℕ, _+_, _*_, _<_}
 use native.Mathlib.Omega.{arith}
-use mathlib.Core.Path.{_≡_, sym, ap, _∙_}
-use mathlib.Core.List.{List, _++_}
-use lib.ListN.{set, replicate, drop, length-drop}
-use lib.Seq.{getD-drop, ext-getD}
-use Rattle.marks.specs.Marks.{SameFrom}
-use Rattle.marks.proofs.Places.{same-from, same-then, same-set}
-use Rattle.tables.specs.Tables.{columnsLength, zeroed}
+use mathlib.Core.Path.{_≡_}
+use mathlib.Core.List.{List}
+use lib.ListN.{set}
+use Rattle.lent.proofs.Keeping.{same-from, same-then, same-set}
+use Rattle.tables.specs.Tables.{columnsLength}
 use Rattle.children.specs.declared.Task.{Task}
 use Rattle.children.specs.Steps.{Ready, Kept}
 use Rattle.children.proofs.Keeping.{ready-still}
-
-pub zeroed-same : (n : ℕ) (xs ys : List ℕ) → SameFrom n xs ys → zeroed n ys ≡ zeroed n xs
-unfolding zeroed
-zeroed-same n xs ys same =
-    ap (λ (l : List ℕ). replicate n 0 ++ l)
-    (ext-getD 0 (drop n ys) (drop n xs) (omega (arith, length-drop n xs, length-drop n ys, same .long))
-    (λ i l. getD-drop n ys i 0 ∙ same .rest (n + i) (omega arith) ∙ sym (getD-drop n xs i 0)))
 
 module _ (task : Task) (bytes : List ℕ) where
   pub kept-self : (columns plans layers : List ℕ) → Kept task bytes columns plans layers columns plans layers

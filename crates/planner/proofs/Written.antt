@@ -6,12 +6,14 @@ use mathlib.Core.Path.{_≡_, refl, sym, ap, _∙_}
 use mathlib.Core.List.{List, _++_}
 use lib.ListN.{length, take, drop, length-take, length-drop}
 use Rattle.lists.specs.Lists.{each}
+use Rattle.lent.proofs.Keeping.{zeroed-same}
+use Rattle.lent.specs.Lent.{zeroed}
 use Rattle.job.specs.Job.{planLength}
 use Rattle.search.specs.Search.{Outcome}
 use Rattle.tree.specs.Plan.{total}
 use Rattle.tree.specs.Tree.{Node, nodeSum, tree}
 use Rattle.tables.specs.State.{routesIn, stretchAt, nodeAt}
-use Rattle.tables.specs.Tables.{Tables, columnsLength, plansLength, layersLength, zeroed, workedOn, planWritten, withPlan}
+use Rattle.tables.specs.Tables.{Tables, columnsLength, plansLength, layersLength, workedOn, planWritten, withPlan}
 use Rattle.tables.proofs.Costs.{routes-joined, total-in}
 use Rattle.children.specs.declared.Task.{Task}
 use Rattle.planner.specs.declared.End.{End}
@@ -23,7 +25,6 @@ use Rattle.children.specs.Written.{sumIn}
 use Rattle.children.specs.Steps.{jobOn, Ready, Kept}
 use Rattle.planner.specs.Steps.{jobIn, Placed, EndFact, EndPlaced, ToldFact, Cleared, RanFact}
 use Rattle.planner.proofs.Cells.{stretch-inside}
-use Rattle.planner.proofs.Tails.{zeroed-same}
 
 -- ---- what is told
 

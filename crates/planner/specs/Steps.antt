@@ -6,6 +6,7 @@ use mathlib.Core.Bool.{true, false}
 use mathlib.Core.List.{List, [], _++_}
 use mathlib.Core.Option.{none, some}
 use lib.ListN.{length, set}
+use Rattle.lent.specs.Lent.{zeroed}
 use Rattle.job.specs.Job.{Job, planLength}
 use Rattle.routes.specs.Bars.{Barred}
 use Rattle.routes.specs.declared.Bar.the-variants.{Stay, Cross}
@@ -14,7 +15,7 @@ use Rattle.search.proofs.From.{runFrom}
 use Rattle.tree.specs.Tree.{Node, nodeSum, nodeClear, kids, child, tree}
 use Rattle.tree.specs.Plan.{total}
 use Rattle.tables.specs.State.{routesIn, stretchAt, nodeAt, live, Sound}
-use Rattle.tables.specs.Tables.{Tables, columnsLength, plansLength, layersLength, zeroed, planWritten}
+use Rattle.tables.specs.Tables.{Tables, columnsLength, plansLength, layersLength, planWritten}
 use Rattle.children.specs.declared.Task.{Task}
 use Rattle.children.specs.Steps.{BarSet, jobOn}
 use Rattle.planner.specs.Answer.{searched}

@@ -287,7 +287,7 @@ fn tell(task: Task, end: End, plans: &[u8], output: &mut [u8]) -> Answer
         },
         End::Clear { node, made } => {
             let size = children::stretch_of(task);
-            tables::copy_out(plans, node * size, size, output);
+            lent::copy_out(plans, node * size, size, output);
             Answer::Plan {
                 sum: children::sum_at(task, node, plans),
                 records: made,
@@ -302,9 +302,9 @@ fn clear_all(task: Task, columns: &mut [u16], plans: &mut [u8], layers: &mut [u8
     ensures { λ r. ⌜ Cleared task (now (columns .entry)) (now (plans .entry)) (now (layers .entry)) (now (columns .exit)) (now (plans .exit)) (now (layers .exit)) ⌝ }
 {
     let capacity = task.capacity;
-    tables::clear_words(columns, tables::COLUMNS * capacity);
-    tables::clear_bytes(plans, capacity * children::stretch_of(task));
-    tables::clear_bytes(layers, (task.horizon + 1) * (task.width * task.height));
+    lent::clear_words(columns, tables::COLUMNS * capacity);
+    lent::clear_bytes(plans, capacity * children::stretch_of(task));
+    lent::clear_bytes(layers, (task.horizon + 1) * (task.width * task.height));
 }
 
 // The search, what is told of its end, and the tables cleared.

@@ -14,6 +14,7 @@ use mathlib.Core.List.{List, _++_}
 use mathlib.Core.Logic.{_⊎_, _↔_}
 use lib.ListN.{length, take}
 use Rattle.lists.specs.Lists.{range, each}
+use Rattle.lent.specs.Lent.{zeroed}
 use Rattle.job.specs.Job.{Job, wrongCapacity}
 use Rattle.job.specs.Verdict.{judgeWith, IsAccepted}
 use Rattle.job.specs.declared.Verdict.the-variants.{Accepted}
@@ -24,7 +25,7 @@ use Rattle.clashes.specs.declared.MeetingVerdict.{MeetingVerdict}
 use Rattle.checks.specs.Demand.{LawfulRoutes, Safe}
 use Rattle.tree.specs.Plan.{Routes, routeOf, IsPlan, IsSafe, Family, total}
 use Rattle.tree.specs.Promises.{LeastPlan}
-use Rattle.tables.specs.Tables.{Tables, columnsLength, plansLength, layersLength, shortTable, zeroed, planWritten}
+use Rattle.tables.specs.Tables.{Tables, columnsLength, plansLength, layersLength, shortTable, planWritten}
 use Rattle.planner.specs.Answer.{answerTold, planned}
 use Rattle.planner.specs.Post.{Planned}
 use Rattle.planner.specs.declared.Answer.{Answer}

@@ -6,12 +6,12 @@ use mathlib.Core.Bool.{Bool, true, false}
 use mathlib.Core.List.{List}
 use mathlib.Core.Option.{Option, none, some}
 use lib.ListN.{length}
+use Rattle.lent.specs.Lent.{SameFrom}
 use Rattle.hall.specs.Hall.{Hall, size}
 use Rattle.routes.specs.Route.{cost}
 use Rattle.routes.specs.Bars.{barsFor}
 use Rattle.routes.specs.declared.Bar.{Bar}
 use Rattle.records.specs.Columns.{chainOf, Falls}
-use Rattle.marks.specs.Marks.{SameFrom}
 use Rattle.layers.specs.Layers.{routeFrom, writtenRoute, Filled}
 
 -- a test's answer tells whether P holds

@@ -1,4 +1,3 @@
-pub mod Copies
 pub mod Costs
 pub mod Grown
 pub mod Live

@@ -4,15 +4,13 @@ use Prim.Native.Nat.{ℕ, _+_, _*_}
 use native.Mathlib.Omega.{arith}
 use mathlib.Core.Path.{_≡_, sym, ap}
 use mathlib.Core.Bool.{true, true≢false}
-use mathlib.Core.List.{List, [], _∷_, _++_}
-use lib.ListN.{getD, take, drop, set}
-use lib.Seq.{paste}
+use mathlib.Core.List.{List, [], _∷_}
+use lib.ListN.{getD, set}
 use Rattle.lists.specs.Lists.{sumTo}
 use Rattle.routes.specs.Route.{stepCost, cost, routeIn}
 use Rattle.routes.specs.declared.Bar.{Bar}
 use Rattle.routes.specs.declared.Bar.the-variants.{Stay}
 use Rattle.tables.specs.State.{isOpenAt}
-use Rattle.tables.specs.Tables.{zeroed}
 use Rattle.tables.specs.Post.{LeastFact, codeOf, Recorded}
 use Rattle.tables.specs.declared.Least.the-variants.{At}
 use Rattle.tables.specs.declared.Code.{Code}
@@ -65,19 +63,6 @@ not-opened r = let z : _≡_ {A = ℕ} 0 1 = r .opened in omega arith
 pub parent-closed : Recorded 2 (set one (7 * 2 + 0) 1) 1 0 1 stay 5 two → ⊥
 parent-closed r = let z : _≡_ {A = ℕ} 0 1 = r .others 7 0 (omega arith) (λ same. omega (arith, same)) in omega arith
 
--- ---- copy_stretch, of bytes 0 and 1 to bytes 2 and 3
-
-abbrev stretches : List ℕ
-stretches = 3 ∷ 4 ∷ 0 ∷ 0 ∷ []
-
--- the last byte left out
-pub last-byte-left-out : 3 ∷ 4 ∷ 3 ∷ 0 ∷ [] ≡ paste stretches 2 (take 2 (drop 0 stretches)) 2 → ⊥
-last-byte-left-out e = let z : _≡_ {A = ℕ} 0 4 = ap (λ (xs : List ℕ). getD xs 3 9) e in omega arith
-
--- from the child to the parent
-pub copied-back : 0 ∷ 0 ∷ 0 ∷ 0 ∷ [] ≡ paste stretches 2 (take 2 (drop 0 stretches)) 2 → ⊥
-copied-back e = let z : _≡_ {A = ℕ} 0 3 = ap (λ (xs : List ℕ). getD xs 0 9) e in omega arith
-
 -- ---- route_cost
 
 -- cells counted for steps: document 01's 1 4 7
@@ -96,28 +81,3 @@ first-touch e = let z : _≡_ {A = ℕ} 1 3 = e in omega arith
 pub last-carrier-left-out : 3 ≡ sumTo 2 (λ i. cost (getD (5 ∷ 7 ∷ 0 ∷ 0 ∷ 0 ∷ 0 ∷ 0 ∷ 0 ∷ []) i 0) (routeIn 4 (3 ∷ 3 ∷ 4 ∷ 5 ∷ 5 ∷ 1 ∷ 4 ∷ 7 ∷ 7 ∷ 7 ∷ []) i)) → ⊥
 unfolding sumTo routeIn cost stepCost
 last-carrier-left-out e = let z : _≡_ {A = ℕ} 3 5 = e in omega arith
-
--- ---- clear_words and clear_bytes, whose contracts are one: two of three entries
-
--- one entry too many
-pub cleared-too-far : 0 ∷ 0 ∷ 0 ∷ [] ≡ zeroed 2 (7 ∷ 8 ∷ 9 ∷ []) → ⊥
-unfolding zeroed
-cleared-too-far e = let z : _≡_ {A = ℕ} 0 9 = ap (λ (xs : List ℕ). getD xs 2 0) e in omega arith
-
--- the last one not
-pub last-not-cleared : 0 ∷ 8 ∷ 9 ∷ [] ≡ zeroed 2 (7 ∷ 8 ∷ 9 ∷ []) → ⊥
-unfolding zeroed
-last-not-cleared e = let z : _≡_ {A = ℕ} 8 0 = ap (λ (xs : List ℕ). getD xs 1 0) e in omega arith
-
--- ---- copy_out, of node 1's two bytes to an output of three
-
-abbrev plans : List ℕ
-plans = 3 ∷ 4 ∷ 5 ∷ 6 ∷ []
-
--- the root's stretch
-pub root-copied-out : 3 ∷ 4 ∷ 9 ∷ [] ≡ take 2 (drop 2 plans) ++ drop 2 (7 ∷ 8 ∷ 9 ∷ []) → ⊥
-root-copied-out e = let z : _≡_ {A = ℕ} 3 5 = ap (λ (xs : List ℕ). getD xs 0 0) e in omega arith
-
--- the rest of the output cleared
-pub rest-cleared : 5 ∷ 6 ∷ 0 ∷ [] ≡ take 2 (drop 2 plans) ++ drop 2 (7 ∷ 8 ∷ 9 ∷ []) → ⊥
-rest-cleared e = let z : _≡_ {A = ℕ} 0 9 = ap (λ (xs : List ℕ). getD xs 2 0) e in omega arith

@@ -4,9 +4,10 @@ use Prim.Native.Nat.{ℕ, _+_, _*_}
 use mathlib.Core.Bool.{Bool, _||_}
 use mathlib.Core.List.{List, _++_}
 use lib.Dec.{ltb}
-use lib.ListN.{length, drop, replicate}
+use lib.ListN.{length, drop}
 use Rattle.hall.specs.Hall.{size}
 use Rattle.lists.specs.Lists.{each}
+use Rattle.lent.specs.Lent.{zeroed}
 use Rattle.job.specs.Job.{Job, planLength}
 use Rattle.tree.specs.Plan.{Routes}
 
@@ -30,10 +31,6 @@ unfoldable pub shortTable : Job → ℕ → Tables → Bool
 shortTable job capacity ts =
     ltb (length (ts .columns)) (columnsLength capacity) || ltb (length (ts .plans)) (plansLength job capacity)
     || (ltb (length (ts .layers)) (layersLength job) || ltb (length (ts .output)) (planLength job))
-
--- the first n entries zero, 'the rest unchanged'
-unfoldable pub zeroed : ℕ → List ℕ → List ℕ
-zeroed n xs = replicate n 0 ++ drop n xs
 
 -- 'After 0, 8 and 9 the named least lengths of the first three tables are all zero and the rest unchanged.'
 unfoldable pub workedOn : Job → ℕ → Tables → Tables

@@ -1,15 +1,12 @@
-// The planner's leaves over the lent tables: the open node of least sum, a record written, a stretch copied, a table cleared.
+// The planner's leaves over the lent tables: the open node of least sum, a record written, the cost and the sum of routes.
 use job::Team;
 use routes::Bar;
 ghost use Prim.Native.Nat.{_+_, _*_, _≤_, _<_};
 ghost use mathlib.Core.Path.{_≡_};
-ghost use mathlib.Core.List.{_++_};
-ghost use lib.ListN.{length, getD, take, drop, set};
-ghost use lib.Seq.{paste};
+ghost use lib.ListN.{length, getD, set};
 ghost use Rattle.lists.specs.Lists.{sumTo};
 ghost use Rattle.routes.specs.Route.{cost, routeIn};
 ghost use Rattle.tables.specs.Post.{Room, LeastFact, codeOf, Fitting, Filled, Recorded};
-ghost use Rattle.tables.specs.Tables.{zeroed};
 
 // 'Record columns, 16-bit': the parent, the kind of bar, the barred carrier, three numbers of the bar, the sum, and whether
 // the node is open. Column after column, each with an entry for each of the N nodes.
@@ -139,16 +136,6 @@ pub fn write_record(
     fill_record(columns, capacity, node, values);
 }
 
-// 'Each node's routes fill their own stretch of the plans table': a child's stretch is first its parent's.
-pub fn copy_stretch(plans: &mut [u8], from: usize, to: usize, n: usize)
-    requires { ⌜ (from + n ≤ to) × (to + n ≤ length (now plans)) ⌝ }
-    ensures { λ r. ⌜ now (plans .exit) ≡ paste (now (plans .entry)) to (take n (drop from (now (plans .entry)))) n ⌝ }
-{
-    for i in 0..n {
-        plans[to + i] = plans[from + i];
-    }
-}
-
 // 'Its cost is the least step from which it is on its goal at every step up to H.'
 pub fn route_cost(route: &[u8], goal: u8) -> usize
     ensures { λ r. ⌜ r ≡ cost goal (now (route .entry)) ⌝ }
@@ -177,33 +164,4 @@ pub fn sum_of(stretch: &[u8], team: Team, h: usize) -> usize
         total += route_cost(&stretch[start..end], team.goals[i]);
     }
     total
-}
-
-// 'After 0, 8 and 9 the named least lengths of the first three tables are all zero and the rest unchanged.'
-pub fn clear_words(words: &mut [u16], n: usize)
-    requires { ⌜ n ≤ length (now words) ⌝ }
-    ensures { λ r. ⌜ now (words .exit) ≡ zeroed n (now (words .entry)) ⌝ }
-{
-    for i in 0..n {
-        words[i] = 0;
-    }
-}
-
-pub fn clear_bytes(bytes: &mut [u8], n: usize)
-    requires { ⌜ n ≤ length (now bytes) ⌝ }
-    ensures { λ r. ⌜ now (bytes .exit) ≡ zeroed n (now (bytes .entry)) ⌝ }
-{
-    for i in 0..n {
-        bytes[i] = 0;
-    }
-}
-
-// 'Output changes only for 0: carrier by carrier, its cells for steps 0 to H, the rest unchanged.'
-pub fn copy_out(plans: &[u8], from: usize, n: usize, output: &mut [u8])
-    requires { ⌜ (from + n ≤ length (now plans)) × (n ≤ length (now output)) ⌝ }
-    ensures { λ r. ⌜ now (output .exit) ≡ take n (drop from (now (plans .entry))) ++ drop n (now (output .entry)) ⌝ }
-{
-    for i in 0..n {
-        output[i] = plans[from + i];
-    }
 }

@@ -2,8 +2,9 @@
 use Prim.Native.Nat.{_+_, _-_, _*_, _≤_, max}
 use native.Mathlib.Omega.{arith}
 use lib.ListN.{length}
-use Rattle.marks.specs.Marks.{SameFrom}
-use Rattle.marks.proofs.Places.{Bounds, size-small, bounds, same-from, same-set}
+use Rattle.lent.proofs.Keeping.{same-from, same-set}
+use Rattle.lent.specs.Lent.{SameFrom}
+use Rattle.marks.proofs.Places.{Bounds, size-small, bounds}
 use Rattle.marks.proofs.Stays.{Stayed, stayed-none, stayed-more, stayed-marked, stay-outside}
 use Rattle.marks.proofs.mark_stay.Statement.{statement}
 use Rattle.marks.proofs.mark_stay.Tie as tie

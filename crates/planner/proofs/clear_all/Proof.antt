@@ -3,7 +3,7 @@ use Prim.Native.Nat.{ℕ, _*_}
 use native.Mathlib.Omega.{arith}
 use mathlib.Core.Path.{ap, _∙_}
 use borrow.Author.Needs.{needs}
-use Rattle.tables.specs.Tables.{zeroed}
+use Rattle.lent.specs.Lent.{zeroed}
 use Rattle.planner.proofs.Answers.{plans-small}
 use Rattle.planner.proofs.clear_all.Statement.{statement}
 use Rattle.planner.proofs.clear_all.Tie as tie

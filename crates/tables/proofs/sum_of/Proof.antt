@@ -3,8 +3,8 @@ use Prim.Native.Nat.{_≤_, _-_, _+_}
 use native.Mathlib.Omega.{arith}
 use mathlib.Core.Path.{_≡_}
 use Rattle.lists.specs.Lists.{sumTo}
+use Rattle.lists.proofs.Loops.{at-end}
 use Rattle.lists.proofs.Parts.{part-within, part-next}
-use Rattle.tables.proofs.Copies.{at-end}
 use Rattle.tables.proofs.Costs.{costIn, costs-none, costs-more, costs-at-most}
 use Rattle.tables.proofs.sum_of.Statement.{statement}
 use Rattle.tables.proofs.sum_of.Tie as tie

@@ -8,11 +8,7 @@ use native.Mathlib.Numerals.{add-one}
 use borrow.Author.Fill.{fill-none, fill-more}
 use lib.ListN.{length, getD, take, drop, set, length-append, length-take, length-drop, length-replicate, List·getD-append}
 use lib.Seq.{paste, paste-zero, paste-suc, length-paste, take-suc, drop-cons, append-snoc, set-at, getD-take, getD-drop, length-take-le}
-use Rattle.tables.specs.Tables.{zeroed}
-
--- a loop's count has come to its end
-pub at-end : {A : Type 0} (f : ℕ → A) (x : A) (i n : ℕ) → i ≤ n → n ≤ i → x ≡ f i → x ≡ f n
-at-end f x i n l k e = let s : i ≡ n = omega arith in e ∙ ap f s
+use Rattle.lent.specs.Lent.{zeroed}
 
 -- ---- entries cleared
 

@@ -2,10 +2,11 @@
 use Prim.Native.Nat.{_≤_, _-_}
 use native.Mathlib.Omega.{arith}
 use mathlib.Core.Path.{_≡_}
-use Rattle.tables.specs.Tables.{zeroed}
-use Rattle.tables.proofs.Copies.{at-end, zeroed-none, zeroed-more, zeroed-length}
-use Rattle.tables.proofs.clear_bytes.Statement.{statement}
-use Rattle.tables.proofs.clear_bytes.Tie as tie
+use Rattle.lent.specs.Lent.{zeroed}
+use Rattle.lists.proofs.Loops.{at-end}
+use Rattle.lent.proofs.Copies.{zeroed-none, zeroed-more, zeroed-length}
+use Rattle.lent.proofs.clear_bytes.Statement.{statement}
+use Rattle.lent.proofs.clear_bytes.Tie as tie
 
 abbrev Inv-loop : tie.InvT-loop
 Inv-loop bytes₀ n i₀ bytes i = (i ≤ n) × (bytes ≡ zeroed i bytes₀)

@@ -4,9 +4,10 @@ use native.Mathlib.Omega.{arith}
 use mathlib.Core.Path.{_≡_}
 use lib.ListN.{take, drop}
 use lib.Seq.{paste}
-use Rattle.tables.proofs.Copies.{at-end, copied-none, copied-more, copied-length}
-use Rattle.tables.proofs.copy_stretch.Statement.{statement}
-use Rattle.tables.proofs.copy_stretch.Tie as tie
+use Rattle.lists.proofs.Loops.{at-end}
+use Rattle.lent.proofs.Copies.{copied-none, copied-more, copied-length}
+use Rattle.lent.proofs.copy_stretch.Statement.{statement}
+use Rattle.lent.proofs.copy_stretch.Tie as tie
 
 abbrev Inv-loop : tie.InvT-loop
 Inv-loop plans₀ from to n i₀ plans i = (i ≤ n) × (plans ≡ paste plans₀ to (take n (drop from plans₀)) i)

@@ -4,9 +4,10 @@ use native.Mathlib.Omega.{arith}
 use mathlib.Core.Path.{_≡_}
 use mathlib.Core.List.{_++_}
 use lib.ListN.{take, drop}
-use Rattle.tables.proofs.Copies.{at-end, out-none, out-more, out-length}
-use Rattle.tables.proofs.copy_out.Statement.{statement}
-use Rattle.tables.proofs.copy_out.Tie as tie
+use Rattle.lists.proofs.Loops.{at-end}
+use Rattle.lent.proofs.Copies.{out-none, out-more, out-length}
+use Rattle.lent.proofs.copy_out.Statement.{statement}
+use Rattle.lent.proofs.copy_out.Tie as tie
 
 abbrev Inv-loop : tie.InvT-loop
 Inv-loop plans from n output₀ i₀ output i = (i ≤ n) × (output ≡ take i (drop from plans) ++ drop i output₀)
