@@ -4,15 +4,16 @@ use Prim.Native.Nat.{ℕ, _+_, _≤_}
 use native.Mathlib.Omega.{arith}
 use mathlib.Core.List.{List}
 use mathlib.Core.Path.{_≡_, sym, ap, _∙_}
-use lib.ListN.{length, take, drop}
-use Rattle.book.specs.Book.{bookNumber, askedVerdict, ifGood, entryOffset, entryLength, entryBody, bodyOf}
+use lib.ListN.{length}
+use Rattle.book.specs.Book.{bookNumber, askedVerdict, entryOffset, entryLength, bodyOf, bodyPlace}
 use Rattle.book.specs.declared.BookVerdict.{BookVerdict}
 use Rattle.book.specs.declared.BookVerdict.the-variants.{Good}
 use Rattle.book.proofs.Bodies.{good-consecutive}
 use Rattle.book.proofs.Lengths.{asked-length}
-use Rattle.book.proofs.Verdicts.{asked-good, asked-three, if-refused, refused-empty, good-body}
+use Rattle.book.proofs.Places.{good-place, refused-place, part-of-book}
+use Rattle.book.proofs.Verdicts.{asked-good, asked-three, refused-empty}
 use Rattle.adfulmise.specs.Lent.{written, placeValues}
-use Rattle.adfulmise.specs.Post.{offsetOf, Read}
+use Rattle.adfulmise.specs.Post.{Read}
 
 -- a body handed back is as long as its entry says
 handed-length : (book : List ℕ) (kind : ℕ) → askedVerdict book kind ≡ Good → length (bodyOf book kind) ≡ entryLength book kind
@@ -54,32 +55,14 @@ lengths-inside book kind good =
 
 -- ---- the place of a body
 
-place-good : (book : List ℕ) (kind : ℕ) → askedVerdict book kind ≡ Good → offsetOf book kind ≡ entryOffset book kind
-unfolding offsetOf ifGood
-place-good book kind good = rw good
-
-place-refused : (book : List ℕ) (kind : ℕ) → (askedVerdict book kind ≡ Good → ⊥) → offsetOf book kind ≡ 0
-unfolding offsetOf
-place-refused book kind no-good = if-refused (askedVerdict book kind) (entryOffset book kind) 0 no-good
-
-body-good : (book : List ℕ) (kind : ℕ) → askedVerdict book kind ≡ Good → take (length (bodyOf book kind)) (drop (offsetOf book kind) book) ≡ bodyOf book kind
-unfolding entryBody
-body-good book kind good =
-    ap (λ (n : ℕ). take n (drop (offsetOf book kind) book)) (handed-length book kind good)
-    ∙ ap (λ (o : ℕ). take (entryLength book kind) (drop o book)) (place-good book kind good)
-    ∙ sym (good-body book kind good)
-
-body-refused : (book : List ℕ) (kind : ℕ) → (askedVerdict book kind ≡ Good → ⊥) → take (length (bodyOf book kind)) (drop (offsetOf book kind) book) ≡ bodyOf book kind
-body-refused book kind no-good = rw (refused-empty book kind no-good)
-
 pub read-good : {after : List ℕ} (book : List ℕ) (kind : ℕ) (before : List ℕ) (o : ℕ) (part : List ℕ)
     → askedVerdict book kind ≡ Good → o ≡ entryOffset book kind → part ≡ bodyOf book kind → after ≡ written (placeValues o (length part)) before
     → Read book kind before 0 after
 read-good book kind before o part good at is e =
     record {
       number = ap bookNumber (sym good);
-      place = e ∙ ap (λ (xs : List ℕ). written (placeValues o (length xs)) before) is ∙ ap (λ (x : ℕ). written (placeValues x (length (bodyOf book kind))) before) (at ∙ sym (place-good book kind good));
-      body = body-good book kind good;
+      place = e ∙ ap (λ (xs : List ℕ). written (placeValues o (length xs)) before) is ∙ ap (λ (x : ℕ). written (placeValues x (length (bodyOf book kind))) before) (at ∙ sym (good-place book kind good));
+      body = part-of-book book kind;
     }
 
 pub read-refused : {after : List ℕ} {r : ℕ} (book : List ℕ) (kind : ℕ) (before : List ℕ) (v : BookVerdict)
@@ -90,7 +73,7 @@ read-refused book kind before v wrong is e f =
     record {
       number = e ∙ ap bookNumber is;
       place =
-          f ∙ ap (λ (x : ℕ). written (placeValues x 0) before) (sym (place-refused book kind refused))
-          ∙ ap (λ (xs : List ℕ). written (placeValues (offsetOf book kind) (length xs)) before) (sym (refused-empty book kind refused));
-      body = body-refused book kind refused;
+          f ∙ ap (λ (x : ℕ). written (placeValues x 0) before) (sym (refused-place book kind refused))
+          ∙ ap (λ (xs : List ℕ). written (placeValues (bodyPlace book kind) (length xs)) before) (sym (refused-empty book kind refused));
+      body = part-of-book book kind;
     }

@@ -3,7 +3,7 @@ use Prim.Native.Nat.{ℕ}
 use mathlib.Core.List.{List}
 use mathlib.Core.Path.{_≡_}
 use lib.ListN.{length, take, drop}
-use Rattle.book.specs.Book.{bookNumber, askedVerdict, ifGood, entryOffset, bodyOf}
+use Rattle.book.specs.Book.{bookNumber, askedVerdict, bodyOf, bodyPlace}
 use Rattle.job.specs.Job.{Job}
 use Rattle.job.specs.declared.Fault.{Fault}
 use Rattle.tables.specs.Tables.{Tables}
@@ -23,12 +23,8 @@ pub record Checked (fault : Fault) (before : List ℕ) (r : ℕ) (after : List �
   pub number : r ≡ fault .number
   pub told : after ≡ written (faultValues fault) before
 
--- where the body of a kind begins; 0 with a refusal, where the body is empty
-unfoldable pub offsetOf : List ℕ → ℕ → ℕ
-offsetOf book kind = ifGood (askedVerdict book kind) (entryOffset book kind) 0
-
 -- the reader's number, and where the body stands
 pub record Read (book : List ℕ) (kind : ℕ) (before : List ℕ) (r : ℕ) (after : List ℕ) : Type 0 where
   pub number : r ≡ bookNumber (askedVerdict book kind)
-  pub place : after ≡ written (placeValues (offsetOf book kind) (length (bodyOf book kind))) before
-  pub body : take (length (bodyOf book kind)) (drop (offsetOf book kind) book) ≡ bodyOf book kind
+  pub place : after ≡ written (placeValues (bodyPlace book kind) (length (bodyOf book kind))) before
+  pub body : take (length (bodyOf book kind)) (drop (bodyPlace book kind) book) ≡ bodyOf book kind

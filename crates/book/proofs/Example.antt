@@ -5,7 +5,7 @@ use mathlib.Core.Path.{_≡_, refl}
 use mathlib.Core.List.{List, [], _∷_}
 use Rattle.lists.specs.Lists.{refuseIf}
 use Rattle.book.specs.declared.BookVerdict.the-variants.{Good}
-use Rattle.book.specs.Book.{lowHigh, entryKind, entryOffset, entryLength, entryBody, noContents, wrongKinds, wrongBodies, wrongLengths, bookVerdict, noKind, ifGood, askedVerdict, bodyOf}
+use Rattle.book.specs.Book.{lowHigh, entryKind, entryOffset, entryLength, entryBody, noContents, wrongKinds, wrongBodies, wrongLengths, bookVerdict, noKind, ifGood, askedVerdict, bodyOf, bodyPlace}
 use Rattle.book.specs.Parts.{widthIn, heightIn, hallIn, countIn, startIn, goalIn, delayIn, horizonIn}
 
 -- nine open cells
@@ -32,9 +32,14 @@ pub printed-carriers : bodyOf printedBook 2 ≡ 3 ∷ 5 ∷ 1 ∷ 7 ∷ []
 unfolding bodyOf askedVerdict ifGood noKind bookVerdict refuseIf noContents wrongKinds wrongBodies wrongLengths entryKind entryOffset entryLength entryBody lowHigh
 printed-carriers = refl
 
-printed-limits : bodyOf printedBook 3 ≡ 0 ∷ 4 ∷ []
+pub printed-limits : bodyOf printedBook 3 ≡ 0 ∷ 4 ∷ []
 unfolding bodyOf askedVerdict ifGood noKind bookVerdict refuseIf noContents wrongKinds wrongBodies wrongLengths entryKind entryOffset entryLength entryBody lowHigh
 printed-limits = refl
+
+-- '16 0', '27 0', '31 0'
+pub printed-places : (bodyPlace printedBook 1 ≡ 16) × (bodyPlace printedBook 2 ≡ 27) × (bodyPlace printedBook 3 ≡ 31)
+unfolding bodyPlace askedVerdict ifGood noKind bookVerdict refuseIf noContents wrongKinds wrongBodies wrongLengths entryKind entryOffset entryLength entryBody lowHigh
+printed-places = (refl, refl, refl)
 
 -- what the bodies say: a hall of 3 by 3, all open; carrier 0 from 3 to 5, carrier 1 from 1 to 7; k 0, H 4
 pub printed-job : (widthIn (bodyOf printedBook 1) ≡ 3) × (heightIn (bodyOf printedBook 1) ≡ 3) × (hallIn (bodyOf printedBook 1) ≡ nine)

@@ -3,6 +3,7 @@ pub mod Bodies
 pub mod Example
 pub mod Held
 pub mod Lengths
+pub mod Places
 pub mod Settled
 pub mod Verdicts
 pub mod Wrong

@@ -1,14 +1,17 @@
 -- Wrong answers that the reader's contracts rule out. `reader_answer` and `judge_asked` promise one thing of a book and a kind,
 -- `reader_body` and `body` another, so each law speaks of two functions. The book is the one that document 01 prints. Assumes nothing.
-use Prim.Native.Nat.{ℕ}
+use Prim.Native.Nat.{ℕ, _+_, _-_}
 use native.Mathlib.Omega.{arith}
 use mathlib.Core.Path.{_≡_, sym, ap, _∙_}
 use mathlib.Core.List.{List, [], _∷_}
-use lib.ListN.{getD, length}
+use base.Fml.{GName}
+use denote.Ref.{RefT}
+use lib.ListN.{getD, length, take, drop}
 use Rattle.lists.specs.Lists.{refuseIf}
 use Rattle.book.specs.declared.BookVerdict.the-variants.{WrongKinds, WrongBodies, NoKind}
-use Rattle.book.specs.Book.{bookNumber, noContents, bookVerdict, noKind, ifGood, askedVerdict, bodyOf}
-use Rattle.book.proofs.Example.{printedBook, printed-good, printed-carriers}
+use Rattle.book.specs.Book.{bookNumber, noContents, bookVerdict, noKind, ifGood, askedVerdict, bodyOf, bodyPlace}
+use Rattle.book.specs.Handed.{Handed}
+use Rattle.book.proofs.Example.{printedBook, printed-good, printed-carriers, printed-limits, printed-places}
 use Rattle.book.proofs.Verdicts.{asked-kind, asked-three, refused-empty}
 
 -- ---- book_number
@@ -34,14 +37,35 @@ last-kind-refused e = let z : _≡_ {A = ℕ} 15 0 = ap bookNumber (e ∙ asked-
 
 -- ---- reader_body and body
 
--- kinds counted from 0: the limits for the carriers
-pub limits-for-carriers : 0 ∷ 4 ∷ [] ≡ bodyOf printedBook 2 → ⊥
-limits-for-carriers e = let z : _≡_ {A = ℕ} 0 3 = ap (λ (xs : List ℕ). getD xs 0 9) (e ∙ printed-carriers) in omega arith
+-- the printed book lent at any place of memory, and the parts of it: `book[a..e]`
+module _ (block first : ℕ) (γ δ : GName) where
+  abbrev lent : RefT (List ℕ)
+  lent = record { ptr = (block, first); name = γ; now = printedBook }
 
--- the last body for any kind above 3
-pub last-body-for-no-kind : 0 ∷ 4 ∷ [] ≡ bodyOf printedBook 4 → ⊥
-unfolding refuseIf noKind
-last-body-for-no-kind e =
-    let refused : askedVerdict printedBook 4 ≡ NoKind = sym (asked-kind printedBook 4 printed-good) in
-    let empty : bodyOf printedBook 4 ≡ [] = refused-empty printedBook 4 (λ good. let z : _≡_ {A = ℕ} 0 15 = ap bookNumber (sym good ∙ refused) in omega arith) in
-    let z : _≡_ {A = ℕ} 2 0 = ap length (e ∙ empty) in omega arith
+  abbrev part : ℕ → ℕ → RefT (List ℕ)
+  part a e = record { ptr = (block, first + a); name = δ; now = take (e - a) (drop a printedBook) }
+
+  -- kinds counted from 0: the limits for the carriers
+  pub limits-for-carriers : Handed lent 2 (part 31 33) → ⊥
+  limits-for-carriers h = let z : _≡_ {A = ℕ} 0 3 = ap (λ (xs : List ℕ). getD xs 0 9) (h .bytes ∙ printed-carriers) in omega arith
+
+  -- the last body for any kind above 3
+  pub last-body-for-no-kind : Handed lent 4 (part 31 33) → ⊥
+  unfolding refuseIf noKind
+  last-body-for-no-kind h =
+      let refused : askedVerdict printedBook 4 ≡ NoKind = sym (asked-kind printedBook 4 printed-good) in
+      let empty : bodyOf printedBook 4 ≡ [] = refused-empty printedBook 4 (λ good. let z : _≡_ {A = ℕ} 0 15 = ap bookNumber (sym good ∙ refused) in omega arith) in
+      let z : _≡_ {A = ℕ} 2 0 = ap length (h .bytes ∙ empty) in omega arith
+
+  -- two bytes of the contents for the limits: equal bytes, and only the place rules them out
+  pub contents-like-limits : part 8 10 .now ≡ bodyOf printedBook 3
+  contents-like-limits = sym printed-limits
+
+  pub contents-for-limits : Handed lent 3 (part 8 10) → ⊥
+  contents-for-limits h =
+      let z : first + 8 ≡ first + bodyPlace printedBook 3 = ap (λ (p : ℕ × ℕ). p .1) (h .begins) in
+      omega (arith, printed-places .2)
+
+  -- a copy of the body in other memory
+  pub copy-for-part : (other at : ℕ) → (other ≡ block → ⊥) → Handed lent 3 (record { ptr = (other, at); name = δ; now = 0 ∷ 4 ∷ [] }) → ⊥
+  copy-for-part other at apart h = apart (ap (λ (p : ℕ × ℕ). p .0) (h .begins))

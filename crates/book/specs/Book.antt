@@ -125,3 +125,7 @@ askedVerdict book kind = ifGood (bookVerdict book) (refuseIf (noKind kind) NoKin
 -- 'Asked for one kind, the reader hands back that body as a part of the lent book'; 'with any refusal the part handed back is empty'
 unfoldable pub bodyOf : List ℕ → ℕ → List ℕ
 bodyOf book kind = ifGood (askedVerdict book kind) (entryBody book kind) []
+
+-- where in the book the part handed back begins; with a refusal the empty part begins at the book's first byte
+unfoldable pub bodyPlace : List ℕ → ℕ → ℕ
+bodyPlace book kind = ifGood (askedVerdict book kind) (entryOffset book kind) 0

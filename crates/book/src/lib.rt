@@ -5,7 +5,8 @@ ghost use mathlib.Core.Bool.{false};
 ghost use Prim.Native.Nat.{_+_, _<_, _≤_};
 ghost use lib.ListN.{length};
 ghost use Rattle.lists.specs.Lists.{refuseIf};
-ghost use Rattle.book.specs.Book.{bookNumber, entryAt, lowHigh, entryKind, entryOffset, entryLength, bodyEnd, wrongKinds, wrongBodies, wrongHall, wrongCarriers, wrongLimits, wrongLengths, noKind, bookVerdict, askedVerdict, bodyOf};
+ghost use Rattle.book.specs.Book.{bookNumber, entryAt, lowHigh, entryKind, entryOffset, entryLength, bodyEnd, wrongKinds, wrongBodies, wrongHall, wrongCarriers, wrongLimits, wrongLengths, noKind, bookVerdict, askedVerdict};
+ghost use Rattle.book.specs.Handed.{Handed};
 
 // What the reader says, the lowest number first.
 pub enum BookVerdict {
@@ -215,7 +216,7 @@ fn parse_answer(book: &[u8], kind: u8) -> BookVerdict
 
 // The body of a kind as a part of the book; 'with any refusal the part handed back is empty'.
 fn parse_body(book: &[u8], kind: u8) -> &[u8]
-    ensures { λ r. ⌜ now r ≡ bodyOf (now (book .entry)) kind ⌝ }
+    ensures { λ r. ⌜ Handed (book .entry) kind r ⌝ }
 {
     let verdict = parse_answer(book, kind);
     if let BookVerdict::Good = verdict {
@@ -241,7 +242,7 @@ pub fn reader_answer<'a>(reader: Reader<'a>, kind: u8) -> BookVerdict
 
 // 'Asked for one kind, the reader hands back that body as a part of the lent book'.
 pub fn reader_body<'a>(reader: Reader<'a>, kind: u8) -> &'a [u8]
-    ensures { λ r. ⌜ now r ≡ bodyOf (now (reader .entry .book)) kind ⌝ }
+    ensures { λ r. ⌜ Handed (reader .entry .book) kind r ⌝ }
 {
     parse_body(reader.book, kind)
 }
@@ -254,7 +255,7 @@ pub fn judge_asked(book: &[u8], kind: u8) -> BookVerdict
 }
 
 pub fn body(book: &[u8], kind: u8) -> &[u8]
-    ensures { λ r. ⌜ now r ≡ bodyOf (now (book .entry)) kind ⌝ }
+    ensures { λ r. ⌜ Handed (book .entry) kind r ⌝ }
 {
     reader_body(Reader { book }, kind)
 }

@@ -25,7 +25,7 @@ same-length : tie.Need-same-length
 same-length c = search needs
 
 returns : tie.Need-returns
-returns c = read-good (c .before .before .before .before .before .before .before .before .before .before .before .args .book .now) (c .before .before .before .before .before .before .before .before .before .before .before .args .kind) (c .before .before .before .before .before .before .before .before .before .before .before .args .place .now) (c .before .before .before .before .before .body-offset .result) (c .before .before .before .before .body .result .now) (sym (c .before .before .before .before .before .before .before .before .judge-asked .ensures) ∙ c .before .before .before .before .before .before .enum-told .given .1) (c .before .before .before .before .before .body-offset .ensures) (c .before .before .before .before .body .ensures) (c .before .before .write-place .ensures)
+returns c = read-good (c .before .before .before .before .before .before .before .before .before .before .before .args .book .now) (c .before .before .before .before .before .before .before .before .before .before .before .args .kind) (c .before .before .before .before .before .before .before .before .before .before .before .args .place .now) (c .before .before .before .before .before .body-offset .result) (c .before .before .before .before .body .result .now) (sym (c .before .before .before .before .before .before .before .before .judge-asked .ensures) ∙ c .before .before .before .before .before .before .enum-told .given .1) (c .before .before .before .before .before .body-offset .ensures) (c .before .before .before .before .body .ensures .bytes) (c .before .before .write-place .ensures)
 
 write-place-requires-2 : tie.Need-write-place-requires-2
 write-place-requires-2 c κs = search needs

@@ -20,16 +20,16 @@ add-carriers : tie.Need-add-carriers
 add-carriers c = search needs
 
 returns-2 : tie.Need-returns-2
-returns-2 c = ap (λ (xs : List ℕ). 16 + length xs) (c .before .body .ensures) ∙ offset-carriers (c .before .before .before .before .args .book .now) (c .before .before .before .before .args .kind) (c .before .before .before .before .pre) (c .if2 .taken)
+returns-2 c = ap (λ (xs : List ℕ). 16 + length xs) (c .before .body .ensures .bytes) ∙ offset-carriers (c .before .before .before .before .args .book .now) (c .before .before .before .before .args .kind) (c .before .before .before .before .pre) (c .if2 .taken)
 
 body-requires-2 : tie.Need-body-requires-2
 body-requires-2 c κs = search needs
 
 add-result : tie.Need-add-result
-add-result c = let i = lengths-inside (c .before .before .before .before .before .args .book .now) (c .before .before .before .before .before .args .kind) (c .before .before .before .before .before .pre) in omega (arith, ap length (c .before .before .body .ensures), ap length (c .body2 .ensures))
+add-result c = let i = lengths-inside (c .before .before .before .before .before .args .book .now) (c .before .before .before .before .before .args .kind) (c .before .before .before .before .before .pre) in omega (arith, ap length (c .before .before .body .ensures .bytes), ap length (c .body2 .ensures .bytes))
 
 returns-3 : tie.Need-returns-3
-returns-3 c = ap (λ (xs : List ℕ). 16 + length xs + length (c .body2 .result .now)) (c .before .before .body .ensures) ∙ ap (λ (xs : List ℕ). 16 + length (bodyOf (c .before .before .before .before .before .args .book .now) 1) + length xs) (c .body2 .ensures) ∙ offset-limits (c .before .before .before .before .before .args .book .now) (c .before .before .before .before .before .args .kind) (c .before .before .before .before .before .pre) (c .before .before .before .if1 .left) (c .before .if2 .left)
+returns-3 c = ap (λ (xs : List ℕ). 16 + length xs + length (c .body2 .result .now)) (c .before .before .body .ensures .bytes) ∙ ap (λ (xs : List ℕ). 16 + length (bodyOf (c .before .before .before .before .before .args .book .now) 1) + length xs) (c .body2 .ensures .bytes) ∙ offset-limits (c .before .before .before .before .before .args .book .now) (c .before .before .before .before .before .args .kind) (c .before .before .before .before .before .pre) (c .before .before .before .if1 .left) (c .before .if2 .left)
 
 pub body-offset-spec : {M : Type 1} → statement M
 body-offset-spec =

@@ -1,6 +1,6 @@
 -- `book::reader_body` meets its contract: a walk of its MIR, by hand. The reader is taken apart, and `parse_body`, which is covered, is called on its book
 -- and the kind. Its result, a part of the book, is handed back. What the reader owns is kept whole for the exit. Assumes nothing.
-use mathlib.Core.Path.{_≡_, refl}
+use mathlib.Core.Path.{refl}
 use Prim.Native.Nat.{ℕ, _<_, _^_}
 use mathlib.Core.List.{List, [], _∷_}
 use lib.Dec.{T as Holds}
@@ -23,7 +23,7 @@ use denote.RattleType.{owns}
 use denote.Laws.{Is, shows}
 use denote.Plain.{uint-makes, uint-vals, uint-tells}
 use denote.Builtin.{u8}
-use denote.Ref.{RefT, now}
+use denote.Ref.{RefT}
 use denote.Signature.{namedLft}
 use denote.Slice.{ShrSlice, shr-slice-lawful}
 use denote.Steps.{owned, peeks, heard, nothing}
@@ -36,7 +36,7 @@ use denote.Triple.Table.{entered, cited}
 use denote.Triple.Walked.{says, Stays, stay-none, walkOf, goes-none, Walks, ends-at, walked, walk-meets}
 use denote.Exit.{yes}
 use denote.Triple.Clauses.{ensured, lasts}
-use Rattle.book.specs.Book.{bodyOf}
+use Rattle.book.specs.Handed.{Handed}
 use Rattle.book.specs.declared.Reader.{Reader}
 use Rattle.book.proofs.Held.{Row, readerVal, bookVal, OwnReader, OwnBook, OwnKind, Token, taken-apart}
 use Rattle.book.proofs.Reader as T
@@ -75,7 +75,7 @@ module _ {M : Type 1} (𝓤 : URA M) (H : Heap 𝓤) (A : Atoms 𝓤) (W : Given
   to = (((κ, tt), (q, tt), tt, (d .book, (k, tt)), (v ∷ [], (vint w8 k ∷ [], tt))), tt)
 
   abbrev Found : RefT (List ℕ) → Type 0
-  Found s = now s ≡ bodyOf (now (d .book)) k
+  Found s = Handed (d .book) k s
 
   said : (s : RefT (List ℕ)) → ent 𝓤 (ensured 𝓤 H A parse-body.ended (parse-body.clauses 𝓤 H A mem run) (κ, tt) (d .book, (k, tt)) tt s) (fact 𝓤 (Found s))
   said s = exE 𝓤 _ (λ ws. snd∗ 𝓤 (sem 𝓤 H A (lasts parse-body.ended (κ, tt) (d .book, (k, tt)) ws)) (fact 𝓤 (Found s)))

@@ -69,7 +69,7 @@ returns c =
     job-printed (a .book .now) (a .n) (record { columns = a .columns .now; plans = a .plans .now; layers = a .layers .now; output = a .output .now }) (a .out .now)
     (c0 .body .result .now) (c1 .body2 .result .now) (c3 .body3 .result .now) (c8 .hall-in .result .now) (c2 .team-of-bytes .result)
     (c4 .number-at .result) (c5 .number-at2 .result) (c6 .number-at3 .result) (c7 .number-at4 .result) (c9 .plan .result)
-    (c0 .body .ensures) (c1 .body2 .ensures) (c2 .team-of-bytes .ensures) (c3 .body3 .ensures)
+    (c0 .body .ensures .bytes) (c1 .body2 .ensures .bytes) (c2 .team-of-bytes .ensures) (c3 .body3 .ensures .bytes)
     (c4 .number-at .ensures) (c5 .number-at2 .ensures) (c6 .number-at3 .ensures) (c7 .number-at4 .ensures) (c8 .hall-in .ensures)
     (c9 .plan .ensures) (said .ensures)
 
