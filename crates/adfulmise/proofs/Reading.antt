@@ -10,7 +10,7 @@ use Rattle.book.specs.declared.BookVerdict.{BookVerdict}
 use Rattle.book.specs.declared.BookVerdict.the-variants.{Good}
 use Rattle.book.proofs.Bodies.{good-consecutive}
 use Rattle.book.proofs.Lengths.{asked-length}
-use Rattle.book.proofs.Places.{good-place, refused-place, part-of-book}
+use Rattle.book.proofs.Places.{good-place, refused-place}
 use Rattle.book.proofs.Verdicts.{asked-good, asked-three, refused-empty}
 use Rattle.adfulmise.specs.Lent.{written, placeValues}
 use Rattle.adfulmise.specs.Post.{Read}
@@ -62,7 +62,6 @@ read-good book kind before o part good at is e =
     record {
       number = ap bookNumber (sym good);
       place = e ∙ ap (λ (xs : List ℕ). written (placeValues o (length xs)) before) is ∙ ap (λ (x : ℕ). written (placeValues x (length (bodyOf book kind))) before) (at ∙ sym (good-place book kind good));
-      body = part-of-book book kind;
     }
 
 pub read-refused : {after : List ℕ} {r : ℕ} (book : List ℕ) (kind : ℕ) (before : List ℕ) (v : BookVerdict)
@@ -75,5 +74,4 @@ read-refused book kind before v wrong is e f =
       place =
           f ∙ ap (λ (x : ℕ). written (placeValues x 0) before) (sym (refused-place book kind refused))
           ∙ ap (λ (xs : List ℕ). written (placeValues (bodyPlace book kind) (length xs)) before) (sym (refused-empty book kind refused));
-      body = part-of-book book kind;
     }

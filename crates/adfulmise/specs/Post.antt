@@ -2,7 +2,7 @@
 use Prim.Native.Nat.{ℕ}
 use mathlib.Core.List.{List}
 use mathlib.Core.Path.{_≡_}
-use lib.ListN.{length, take, drop}
+use lib.ListN.{length}
 use Rattle.book.specs.Book.{bookNumber, askedVerdict, bodyOf, bodyPlace}
 use Rattle.job.specs.Job.{Job}
 use Rattle.job.specs.declared.Fault.{Fault}
@@ -23,8 +23,7 @@ pub record Checked (fault : Fault) (before : List ℕ) (r : ℕ) (after : List �
   pub number : r ≡ fault .number
   pub told : after ≡ written (faultValues fault) before
 
--- the reader's number, and where the body stands
+-- the reader's number, and where the body stands: `bodyPlace` bytes after the book's first, where the law `part-of-book` finds it
 pub record Read (book : List ℕ) (kind : ℕ) (before : List ℕ) (r : ℕ) (after : List ℕ) : Type 0 where
   pub number : r ≡ bookNumber (askedVerdict book kind)
   pub place : after ≡ written (placeValues (bodyPlace book kind) (length (bodyOf book kind))) before
-  pub body : take (length (bodyOf book kind)) (drop (bodyPlace book kind) book) ≡ bodyOf book kind
