@@ -1,5 +1,5 @@
 -- Loops that look for one that passes, over a lent list and over a range: what is left to look at has the same answer, one step
--- at a time. Assumes nothing.
+-- at a time. And a loop's count that has come to its end. Assumes nothing.
 use Prim.Native.Nat.{ℕ, suc, _+_, _-_, _≤_, _<_}
 use native.Mathlib.Numerals.{add-one}
 use native.Mathlib.Omega.{arith}

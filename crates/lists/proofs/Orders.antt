@@ -1,5 +1,5 @@
 -- Lists in an order: each entry stands so to all that come after it. Of a list in order the first that passes comes before all
--- others that do. By induction on the list. Assumes nothing.
+-- others that do, and parts of it stand one after the other. By induction on the list. Assumes nothing.
 use Prim.Native.Nat.{ℕ, zero, suc, _+_, _≤_, _<_}
 use native.Mathlib.Decide.{ℕ-discrete}
 use native.Mathlib.Omega.{arith}

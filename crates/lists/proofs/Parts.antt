@@ -1,5 +1,5 @@
 -- Parts of a list, `take k (drop a l)`: where the front is the same the parts there are, and a part that does not meet what was
--- written is as it was. Assumes nothing.
+-- written is as it was. A place in a row of parts tells its part. Assumes nothing.
 use Prim.Native.Nat.{ℕ, zero, suc, _+_, _-_, _*_, _≤_, _<_}
 use native.Mathlib.Omega.{arith}
 use native.Mathlib.Nat.{suc-mul, mul-le-mul-right}

@@ -1,4 +1,4 @@
--- Laws of sums and counts: termwise bounds, weights of lists put together, and that a count falls where one that passed passes no
+-- Laws of sums and counts: termwise bounds, one term changed, weights of lists put together, and that a count falls where one that passed passes no
 -- more. Assumes nothing.
 use Prim.Native.Nat.{ℕ, zero, suc, _+_, _*_, _≤_, _<_}
 use native.Mathlib.Nat.{suc-mul}

@@ -1,5 +1,5 @@
 -- The tests of the definitions as facts: one law each way for each of `&&`, `||` and `not`, by cases on the tests. For `not` they
--- are the kit's `T-not` and `not-T`. Assumes nothing.
+-- are the kit's `T-not` and `not-T`. Some equations of tests at the end. Assumes nothing.
 use Prim.Native.Nat.{ℕ}
 use native.Mathlib.Decide.{ℕ-discrete}
 use mathlib.Core.Path.{_≡_, refl, sym, subst, _∙_}

@@ -1,4 +1,4 @@
--- Places in the layers: inside for each step up to h and each cell, and different for different steps or cells. Assumes nothing.
+-- Places in the layers: inside for each step up to h and each cell. Assumes nothing.
 use Prim.Native.Nat.{ℕ, _+_, _*_, _≤_, _<_}
 use native.Mathlib.Nat.{mul-le-mul}
 use native.Mathlib.Omega.{arith}

@@ -1,5 +1,5 @@
 -- What no step touches: the lengths of the tables and what lies past their least lengths. A relation that is carried from step to
--- step, and at the end a table cleared is the table at entry cleared. Assumes nothing.
+-- step. Assumes nothing.
 use Prim.Native.Nat.{ℕ, _+_, _*_, _<_}
 use native.Mathlib.Omega.{arith}
 use mathlib.Core.Path.{_≡_}

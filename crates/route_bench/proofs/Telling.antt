@@ -1,5 +1,4 @@
--- What a test's answer tells, and the bounds of the products that are looked at.
--- Assumes nothing.
+-- What a test's answer tells. Assumes nothing.
 use Prim.Native.Nat.{ℕ, _+_, _<_}
 use native.Mathlib.Decide.{decLe}
 use native.Mathlib.Omega.{arith}
