@@ -22,11 +22,11 @@ use Rattle.routes.proofs.Bars.{turn-reaches}
 use Rattle.marks.specs.Marks.{markOf}
 use Rattle.layers.specs.Layers.{levelOf, byteAt, Filled}
 use Rattle.layers.specs.Fill.{levelIn, turnsBy}
-use Rattle.writer.specs.Write.{hasLevel, goneTo}
 use Rattle.layers.proofs.Turns.{mark-bars, mark-turns}
 use Rattle.layers.proofs.Levels.{short-level, stand-unbarred}
 use Rattle.layers.proofs.FilledLevels.{filled-level}
 use Rattle.layers.proofs.CellLaws.{crossing-one}
+use Rattle.writer.specs.Write.{hasLevel, goneTo}
 use Rattle.writer.proofs.OnwardLaws.{best-first, way-stands, way-goes-on}
 
 -- ---- ways that cost nothing

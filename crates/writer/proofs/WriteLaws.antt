@@ -21,9 +21,9 @@ use Rattle.marks.specs.Post.{Layered}
 use Rattle.marks.proofs.Places.{whole-small}
 use Rattle.layers.specs.Layers.{levelOf, wayFrom, Filled}
 use Rattle.layers.specs.Fill.{levelIn, turnsBy}
-use Rattle.writer.specs.Write.{goneTo, writtenFrom}
 use Rattle.layers.proofs.Levels.{Short, short-level}
 use Rattle.layers.proofs.FilledLevels.{filled-level}
+use Rattle.writer.specs.Write.{goneTo, writtenFrom}
 use Rattle.writer.proofs.OnwardLaws.{last-free, way-stands}
 use Rattle.writer.proofs.WayLaws.{free-stays, unmarked, Onwards, wanted, step-onward}
 

@@ -1,4 +1,4 @@
--- What writing a route promises: the lent stretch holds the best route, and nothing has changed where there is none.
+-- What writing a route promises: the lent stretch holds the best route, or is as it was where there is none.
 use Prim.Native.Nat.{ℕ}
 use mathlib.Core.List.{List}
 use mathlib.Core.Option.{Option, none, some}

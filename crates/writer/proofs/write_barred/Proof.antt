@@ -6,13 +6,13 @@ use Prim.Native.Nat.{ℕ, _+_, _-_, _*_}
 use mathlib.Core.Path.{sym, _∙_}
 use mathlib.Core.List.{List}
 use lib.ListN.{getD, length-replicate}
+use Rattle.lists.proofs.Parts.{part-within}
 use Rattle.routes.specs.declared.Bar.{Bar}
 use Rattle.marks.specs.Marks.{boundBy, Marked}
 use Rattle.marks.proofs.Places.{bounds}
 use Rattle.layers.specs.Layers.{wayFrom, Filled}
 use Rattle.layers.specs.Fill.{lentHall}
 use Rattle.writer.specs.Write.{writtenFrom}
-use Rattle.lists.proofs.Parts.{part-within}
 use Rattle.writer.proofs.WriteLaws.{Writing, layered-ways, write-begins, turns-before, write-turn, write-stays}
 use Rattle.writer.proofs.write_barred.Statement.{statement}
 use Rattle.writer.proofs.write_barred.Tie as tie
