@@ -16,9 +16,10 @@ use Rattle.routes.specs.Best.{bestRoute}
 use Rattle.routes.specs.declared.Bar.{Bar}
 use Rattle.marks.specs.Marks.{boundBy}
 use Rattle.marks.specs.Post.{Layered}
-use Rattle.layers.specs.Layers.{routeFrom, soughtOf, writtenRoute}
+use Rattle.layers.specs.Layers.{routeFrom, soughtOf}
 use Rattle.layers.specs.declared.Sought.{Sought}
 use Rattle.layers.specs.declared.Sought.the-variants.{Nothing, Cost}
+use Rattle.writer.specs.Post.{writtenRoute}
 use Rattle.tables.specs.Tables.{plansLength, layersLength}
 use Rattle.tree.specs.Tree.{nodeSum}
 use Rattle.tables.specs.State.{stretchAt, nodeAt}

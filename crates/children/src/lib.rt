@@ -96,7 +96,7 @@ fn put_route(
     let rows = task.horizon + 1;
     let from = into * stretch_of(task) + carrier * rows;
     let to = from + rows;
-    layers::write_route(
+    writer::write_route(
         hall,
         task.width,
         task.height,

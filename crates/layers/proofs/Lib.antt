@@ -1,6 +1,7 @@
 pub mod CellLaws
 pub mod CellPlaces
 pub mod Filled
+pub mod FilledLevels
 pub mod FloorLaws
 pub mod LeastLaws
 pub mod Levels
@@ -10,7 +11,5 @@ pub mod NearMade
 pub mod SeekLaws
 pub mod Settled
 pub mod SpanLaws
-pub mod StepLaws
 pub mod Turns
-pub mod WayLaws
-pub mod WriteLaws
+pub mod Wrong

@@ -23,7 +23,7 @@ use Rattle.layers.specs.Post.{SoughtRoute}
 use Rattle.layers.specs.declared.Sought.the-variants.{Nothing, Cost}
 use Rattle.layers.proofs.Levels.{Short, short-level}
 use Rattle.layers.proofs.Filled.{levelled-is-filled}
-use Rattle.layers.proofs.WriteLaws.{start-level}
+use Rattle.layers.proofs.FilledLevels.{start-level}
 
 pub route-is-best : (job : Job) (i : ℕ) (bars : List Bar) → routeFrom (job .hall) bars (job .startOf i) (job .goalOf i) (job .horizon) ≡ bestRoute job i bars
 unfolding bestRoute

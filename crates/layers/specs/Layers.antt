@@ -28,11 +28,6 @@ unfoldable pub soughtOf : ℕ → Option (List ℕ) → Sought
 soughtOf goal none = Nothing
 soughtOf goal (some r) = Cost (cost goal r)
 
--- what a lent stretch holds after a route was written, or not
-unfoldable pub writtenRoute : Option (List ℕ) → List ℕ → List ℕ
-writtenRoute none xs = xs
-writtenRoute (some r) xs = r
-
 -- ---- levels: the cost of the best way on, 127 where there is none, and 128 more where a barred crossing starts
 
 unfoldable pub levelOf : ℕ → Option (List ℕ) → ℕ

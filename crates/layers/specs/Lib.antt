@@ -1,4 +1,3 @@
 pub mod Fill
 pub mod Layers
 pub mod Post
-pub mod Write

@@ -10,11 +10,12 @@ use Rattle.hall.specs.Hall.{Hall}
 use Rattle.routes.specs.declared.Bar.{Bar}
 use Rattle.routes.specs.declared.Bar.the-variants.{Free}
 use Rattle.marks.specs.Marks.{boundBy}
-use Rattle.layers.specs.Layers.{routeFrom, soughtOf, writtenRoute, Filled}
+use Rattle.layers.specs.Layers.{routeFrom, soughtOf, Filled}
 use Rattle.layers.specs.Post.{SoughtRoute}
 use Rattle.layers.specs.declared.Sought.{Sought}
 use Rattle.layers.specs.declared.Sought.the-variants.{Nothing, Cost}
 use Rattle.layers.proofs.SeekLaws.{free-bar, free-filled}
+use Rattle.writer.specs.Post.{writtenRoute}
 use Rattle.route_bench.specs.Answer.{costTold, barsAt, Told, Answered}
 
 pub refused : (right : Type 0) (hall : Hall) (bars : List Bar) (start goal h : ℕ) (layers stretch : List ℕ) → (right → ⊥) → Answered right hall bars start goal h layers layers stretch stretch 254

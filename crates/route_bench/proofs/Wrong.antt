@@ -14,8 +14,9 @@ use Rattle.routes.specs.Bars.{barsFor, mayStand, mayTurn}
 use Rattle.routes.specs.Best.{cheaper, better, bestOf, inFront, bestWay}
 use Rattle.records.specs.Columns.{barFrom, barAt, isBar, ownBars, chains, chainOf}
 use Rattle.marks.specs.Marks.{barsMove, digit, markOf}
-use Rattle.layers.specs.Layers.{wayFrom, routeFrom, writtenRoute, levelOf, crossingStarts, byteAt}
+use Rattle.layers.specs.Layers.{wayFrom, routeFrom, levelOf, crossingStarts, byteAt}
 use Rattle.layers.specs.Fill.{lentHall}
+use Rattle.writer.specs.Post.{writtenRoute}
 use Rattle.route_bench.specs.Answer.{RightArguments, costTold, barsAt, Answered}
 
 abbrev aisle : List ℕ

@@ -12,7 +12,8 @@ use Rattle.routes.specs.Route.{cost}
 use Rattle.routes.specs.Bars.{barsFor}
 use Rattle.routes.specs.declared.Bar.{Bar}
 use Rattle.records.specs.Columns.{chainOf, Falls}
-use Rattle.layers.specs.Layers.{routeFrom, writtenRoute, Filled}
+use Rattle.layers.specs.Layers.{routeFrom, Filled}
+use Rattle.writer.specs.Post.{writtenRoute}
 
 -- a test's answer tells whether P holds
 unfoldable pub Tells : Type 0 → Bool → Type 0

@@ -144,7 +144,7 @@ fn best_route(
     match sought {
         Sought::Nothing => NO_ROUTE,
         Sought::Cost(cost) => {
-            layers::write_route(
+            writer::write_route(
                 hall,
                 width,
                 height,

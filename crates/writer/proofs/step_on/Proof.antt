@@ -1,14 +1,14 @@
--- `layers::step_on` meets its contract: the first cell is that of the moves from m on. Assumes nothing.
+-- `writer::step_on` meets its contract: the first cell is that of the moves from m on. Assumes nothing.
 use borrow.Author.Needs.{needs}
 use native.Mathlib.Omega.{arith}
 use Prim.Native.Nat.{_+_, _-_, _*_, _/_, _%_}
 use mathlib.Core.Path.{ap, _∙_}
 use Rattle.layers.specs.Fill.{turnsBy}
-use Rattle.layers.specs.Write.{goneTo}
 use Rattle.layers.proofs.CellPlaces.{place-inside}
-use Rattle.layers.proofs.StepLaws.{Passed, moves-begin, move-found, move-passed, moves-end}
-use Rattle.layers.proofs.step_on.Statement.{statement}
-use Rattle.layers.proofs.step_on.Tie as tie
+use Rattle.writer.specs.Write.{goneTo}
+use Rattle.writer.proofs.StepLaws.{Passed, moves-begin, move-found, move-passed, moves-end}
+use Rattle.writer.proofs.step_on.Statement.{statement}
+use Rattle.writer.proofs.step_on.Tie as tie
 
 abbrev Inv-loop : tie.InvT-loop
 Inv-loop layers width height t v mark size next target row col rest₀ m₀ rest m = Passed layers next target v width height row col mark rest m

@@ -1,16 +1,18 @@
--- `layers::write_route` meets its contract: what is written and the best way from here are the best route. Assumes nothing.
+-- `writer::write_route` meets its contract: what is written and the best way from here are the best route. Assumes nothing.
 use borrow.Author.Needs.{needs}
 use native.Mathlib.Omega.{arith}
 use Prim.Native.Nat.{_+_, _-_, _*_}
 use mathlib.Core.Path.{sym, _∙_}
+use Rattle.lists.proofs.Parts.{part-within}
 use Rattle.marks.specs.Marks.{boundBy}
 use Rattle.marks.proofs.Places.{bounds}
-use Rattle.layers.specs.Layers.{routeFrom, writtenRoute}
+use Rattle.layers.specs.Layers.{routeFrom}
 use Rattle.layers.specs.Fill.{lentHall}
-use Rattle.lists.proofs.Parts.{part-within}
-use Rattle.layers.proofs.WriteLaws.{Writing, none-written, route-begins, rest-short, turns-before, free-turn, write-rest, write-stays}
-use Rattle.layers.proofs.write_route.Statement.{statement}
-use Rattle.layers.proofs.write_route.Tie as tie
+use Rattle.writer.specs.Post.{writtenRoute}
+use Rattle.writer.proofs.WriteLaws.{Writing, rest-short, turns-before, free-turn, write-rest, write-stays}
+use Rattle.writer.proofs.RouteLaws.{none-written, route-begins}
+use Rattle.writer.proofs.write_route.Statement.{statement}
+use Rattle.writer.proofs.write_route.Tie as tie
 
 abbrev Inv-loop : tie.InvT-loop
 Inv-loop hall width height start goal h columns capacity node carrier bar layers stretch₀ size v₀ t₀ stretch v t =

@@ -1,14 +1,13 @@
 -- The route that is read off filled layers is the best one. At each step the best way from here is `rest`, and what is to be written is
 -- what is written, then `rest`; where the level is 0 it stays. Assumes nothing.
 use Prim.Native.Nat.{ℕ, zero, suc, _+_, _-_, _*_, _/_, _%_, _≤_, _<_}
-use native.Mathlib.Nat.{zero-mul}
 use native.Mathlib.Omega.{arith}
 use native.Mathlib.Numerals.{add-one}
 use mathlib.Core.Path.{_≡_, refl, sym, ap, subst, _∙_}
-use mathlib.Core.List.{List, _++_, append-nil, append-assoc}
+use mathlib.Core.List.{List, _++_, append-assoc}
 use mathlib.Core.Option.{Option, none, some}
 use lib.ListN.{length, getD, take, set, replicate, length-set, getD-replicate}
-use lib.Seq.{take-all, take-suc-set}
+use lib.Seq.{take-suc-set}
 use Rattle.hall.specs.Hall.{Hall, size}
 use Rattle.routes.specs.Route.{cost}
 use Rattle.routes.specs.Bars.{mayStand, mayTurn}
@@ -20,13 +19,13 @@ use Rattle.routes.proofs.Way.{Runs, Right, bestWay-right}
 use Rattle.marks.specs.Marks.{markOf}
 use Rattle.marks.specs.Post.{Layered}
 use Rattle.marks.proofs.Places.{whole-small}
-use Rattle.layers.specs.Layers.{levelOf, wayFrom, routeFrom, writtenRoute, Filled}
+use Rattle.layers.specs.Layers.{levelOf, wayFrom, Filled}
 use Rattle.layers.specs.Fill.{levelIn, turnsBy}
-use Rattle.layers.specs.Write.{goneTo, writtenFrom}
-use Rattle.layers.proofs.Levels.{Short, short-level, last-free, way-stands}
-use Rattle.layers.proofs.WayLaws.{free-stays, filled-level, unmarked, Onwards, wanted, step-onward}
-
--- ---- the route
+use Rattle.layers.proofs.Levels.{Short, short-level}
+use Rattle.layers.proofs.FilledLevels.{filled-level}
+use Rattle.writer.specs.Write.{goneTo, writtenFrom}
+use Rattle.writer.proofs.OnwardLaws.{last-free, way-stands}
+use Rattle.writer.proofs.WayLaws.{free-stays, unmarked, Onwards, wanted, step-onward}
 
 -- v is to be written at t, what is written is before it, and `rest` is the best way from here; `whole` is what is to be written
 pub record Writing (hall : Hall) (bars : List Bar) (goal h t v : ℕ) (whole stretch : List ℕ) : Type 0 where
@@ -123,52 +122,6 @@ module _ (hall : Hall) (bars : List Bar) (goal h : ℕ) (layers : List ℕ) (sho
         let there : goal ≡ v = sym (ap (λ r. getD r 0 0) on-goal ∙ getD-replicate (length (f .rest)) 0 goal 0 (omega (arith, runs .long))) ∙ runs .begins in
         let n : length (f .rest) ≡ length stretch - t = omega (arith, runs .long, f .long, f .sum) in
         sym (f .joined ∙ ap (λ r. take t stretch ++ r) (on-goal ∙ ap (λ k. replicate k goal) n ∙ ap (replicate (length stretch - t)) there))
-
--- ---- a route is a way from its start
-
-module _ (hall : Hall) (bars : List Bar) (start goal h : ℕ) (layers : List ℕ) (short : h ≤ 63) (filled : Filled hall bars goal h layers) where
-  start-at : start ≡ 0 * size hall + start
-  start-at = omega (arith, zero-mul (size hall))
-
-  pub start-level : start < size hall → getD layers start 0 % 128 ≡ levelOf goal (routeFrom hall bars start goal h)
-  unfolding levelIn
-  start-level inside = ap (λ x. getD layers x 0 % 128) start-at ∙ filled-level hall bars goal h layers short filled h 0 start (omega arith) inside
-
-  pub none-written : (stretch : List ℕ) → start < size hall → getD layers start 0 % 128 ≡ 127 → stretch ≡ writtenRoute (routeFrom hall bars start goal h) stretch
-  unfolding levelOf writtenRoute Short
-  none-written stretch inside e = go (routeFrom hall bars start goal h) (short-level hall bars goal h 0 start short) (sym (start-level inside) ∙ e)
-    where
-      go : (o : Option (List ℕ)) → Short goal 126 o → levelOf goal o ≡ 127 → stretch ≡ writtenRoute o stretch
-      go none k q = refl
-      go (some r) k q = absurd (omega arith)
-
-  from-start : (stretch : List ℕ) → writtenFrom 0 (wayFrom hall bars goal h 0 start) stretch ≡ writtenRoute (routeFrom hall bars start goal h) stretch
-  unfolding wayFrom writtenFrom writtenRoute
-  from-start stretch =
-      let q : h - 0 ≡ h = omega arith in
-      ap (λ n. writtenFrom 0 (bestWay (mayStand hall bars) (mayTurn hall bars) goal n 0 start) stretch) q ∙ go (routeFrom hall bars start goal h)
-    where
-      go : (o : Option (List ℕ)) → writtenFrom 0 o stretch ≡ writtenRoute o stretch
-      go none = refl
-      go (some r) = refl
-
-  pub route-begins : (stretch : List ℕ) → start < size hall → length stretch ≡ h + 1 → (getD layers start 0 % 128 ≡ 127 → ⊥) → Writing hall bars goal h 0 start (writtenRoute (routeFrom hall bars start goal h) stretch) stretch
-  route-begins stretch inside long n =
-      subst (λ whole. Writing hall bars goal h 0 start whole stretch) (from-start stretch)
-      (write-begins hall bars goal h layers short filled 0 start stretch (omega arith) inside long (λ e. n (ap (λ x. getD layers x 0 % 128) start-at ∙ e)))
-
--- ---- staying
-
--- in a stretch of n bytes
-pub stay-more : (n : ℕ) (stretch : List ℕ) (s v : ℕ) → length stretch ≡ n → s < n → take s stretch ++ replicate (n - s) v ≡ take (s + 1) (set stretch s v) ++ replicate (n - (s + 1)) v
-stay-more n stretch s v long l =
-    let e : n - s ≡ suc (n - (s + 1)) = omega arith in
-    rw (e, add-one, take-suc-set stretch s v (omega arith), append-assoc)
-
-pub stay-ends : (n : ℕ) (stretch : List ℕ) (s v : ℕ) → length stretch ≡ n → n ≤ s → take s stretch ++ replicate (n - s) v ≡ stretch
-stay-ends n stretch s v long l =
-    let e : n - s ≡ 0 = omega arith in
-    rw (e, take-all s stretch (omega arith), append-nil)
 
 -- ---- room for the marks
 

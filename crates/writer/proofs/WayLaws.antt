@@ -20,13 +20,14 @@ use Rattle.routes.specs.Best.{bestWay}
 use Rattle.routes.specs.declared.Bar.{Bar}
 use Rattle.routes.proofs.Bars.{turn-reaches}
 use Rattle.marks.specs.Marks.{markOf}
-use Rattle.layers.specs.Layers.{levelOf, wayFrom, byteAt, Filled}
+use Rattle.layers.specs.Layers.{levelOf, byteAt, Filled}
 use Rattle.layers.specs.Fill.{levelIn, turnsBy}
-use Rattle.layers.specs.Write.{hasLevel, goneTo}
 use Rattle.layers.proofs.Turns.{mark-bars, mark-turns}
-use Rattle.layers.proofs.Levels.{level-most, short-level, stand-unbarred, best-first, way-stands, way-goes-on}
-use Rattle.layers.proofs.Filled.{read-level}
+use Rattle.layers.proofs.Levels.{short-level, stand-unbarred}
+use Rattle.layers.proofs.FilledLevels.{filled-level}
 use Rattle.layers.proofs.CellLaws.{crossing-one}
+use Rattle.writer.specs.Write.{hasLevel, goneTo}
+use Rattle.writer.proofs.OnwardLaws.{best-first, way-stands, way-goes-on}
 
 -- ---- ways that cost nothing
 
@@ -59,16 +60,6 @@ module _ (hall : Hall) (bars : List Bar) (goal h : ℕ) (layers : List ℕ) (sho
   abbrev way : ℕ → ℕ → ℕ → Option (List ℕ)
   way n t v = bestWay (mayStand hall bars) (mayTurn hall bars) goal n t v
 
-  -- with n steps left
-  pub filled-level : (n t v : ℕ) → t + n ≡ h → v < size hall → levelIn layers (t * size hall) v ≡ levelOf goal (way n t v)
-  unfolding levelIn byteAt wayFrom
-  filled-level n t v e k =
-      let q : h - t ≡ n = omega arith in
-      rw (filled .levels t v (omega arith) k, q)
-      (read-level (levelOf goal (way n t v)) (mark t v) (level-most goal (way n t v) (short-level hall bars goal n t v (omega arith))))
-
-  -- ---- one step
-
   -- no barred crossing starts where the byte is below 128
   pub unmarked : (t v : ℕ) → t ≤ h → v < size hall → mayStand hall bars t v ≡ true → getD layers (t * size hall + v) 0 < 128 → mark t v ≡ 0
   unfolding byteAt
@@ -93,7 +84,7 @@ module _ (hall : Hall) (bars : List Bar) (goal h : ℕ) (layers : List ℕ) (sho
 
   target-level : (n t v : ℕ) (s : List ℕ) → t + suc n ≡ h → v < size hall → way (suc n) t v ≡ some (v ∷ s) → getD layers (t * size hall + v) 0 % 128 - 1 ≡ cost goal s
   unfolding levelIn levelOf cost
-  target-level n t v s e k q = ap (λ x. x - 1) (filled-level (suc n) t v e k ∙ ap (levelOf goal) q) ∙ step-back (eqb v goal) (cost goal s)
+  target-level n t v s e k q = ap (λ x. x - 1) (filled-level hall bars goal h layers short filled (suc n) t v e k ∙ ap (levelOf goal) q) ∙ step-back (eqb v goal) (cost goal s)
 
   wanted-first : (n t v : ℕ) (s : List ℕ) → t + suc n ≡ h → v < size hall → way (suc n) t v ≡ some (v ∷ s) → wanted t v (mark t v) ≡ getD (keep (λ w. eqb (levelOf goal (way n (t + 1) w)) (cost goal s)) (mayTurn hall bars t v)) 0 v
   unfolding wanted goneTo hasLevel
@@ -102,7 +93,7 @@ module _ (hall : Hall) (bars : List Bar) (goal h : ℕ) (layers : List ℕ) (sho
       (ap (keep (hasLevel layers ((t + 1) * size hall) (getD layers (t * size hall + v) 0 % 128 - 1)))
       (mark-turns hall bars t v (stand-unbarred hall bars t v (way-stands (mayStand hall bars) (mayTurn hall bars) goal n t v (v ∷ s) q)))
       ∙ keep-same (hasLevel layers ((t + 1) * size hall) (getD layers (t * size hall + v) 0 % 128 - 1)) (λ w. eqb (levelOf goal (way n (t + 1) w)) (cost goal s)) (mayTurn hall bars t v)
-      (λ w m. rw (filled-level n (t + 1) w (omega arith) (reach-inside hall v w (turn-reaches hall bars t v w m)), target-level n t v s e k q)))
+      (λ w m. rw (filled-level hall bars goal h layers short filled n (t + 1) w (omega arith) (reach-inside hall v w (turn-reaches hall bars t v w m)), target-level n t v s e k q)))
 
   -- the first cell of the level wanted is the one by which the best way goes on
   pub step-onward : (n t v : ℕ) (rest : List ℕ) → t + suc n ≡ h → v < size hall → way (suc n) t v ≡ some rest → Onwards n t v (wanted t v (mark t v)) rest

@@ -1,12 +1,12 @@
--- `layers::goes_by` meets its contract: a set digit leaves nothing of the move, and otherwise the level of its one cell is asked.
+-- `writer::goes_by` meets its contract: a set digit leaves nothing of the move, and otherwise the level of its one cell is asked.
 -- Assumes nothing.
 use borrow.Author.Needs.{needs}
 use native.Mathlib.Omega.{arith}
 use Rattle.hall.specs.Moves.{landing}
 use Rattle.layers.proofs.CellPlaces.{landed-inside}
-use Rattle.layers.proofs.StepLaws.{goes-barred, goes-off, goes-there, goes-elsewhere}
-use Rattle.layers.proofs.goes_by.Statement.{statement}
-use Rattle.layers.proofs.goes_by.Tie as tie
+use Rattle.writer.proofs.StepLaws.{goes-barred, goes-off, goes-there, goes-elsewhere}
+use Rattle.writer.proofs.goes_by.Statement.{statement}
+use Rattle.writer.proofs.goes_by.Tie as tie
 
 returns : tie.Need-returns
 returns c =

@@ -1,12 +1,12 @@
--- `layers::stay_on` meets its contract: what is written before s, and v from there on, is always the same. Assumes nothing.
+-- `writer::stay_on` meets its contract: what is written before s, and v from there on, is always the same. Assumes nothing.
 use Prim.Native.Nat.{_-_, _≤_}
 use native.Mathlib.Omega.{arith}
 use mathlib.Core.Path.{_≡_, refl, sym, _∙_}
 use mathlib.Core.List.{_++_}
 use lib.ListN.{length, take, replicate, length-set}
-use Rattle.layers.proofs.WriteLaws.{stay-more, stay-ends}
-use Rattle.layers.proofs.stay_on.Statement.{statement}
-use Rattle.layers.proofs.stay_on.Tie as tie
+use Rattle.writer.proofs.StayLaws.{stay-more, stay-ends}
+use Rattle.writer.proofs.stay_on.Statement.{statement}
+use Rattle.writer.proofs.stay_on.Tie as tie
 
 abbrev Inv-loop : tie.InvT-loop
 Inv-loop t v stretch₀ s₀ stretch s = (s ≤ length stretch₀) × (length stretch ≡ length stretch₀) × (take t stretch₀ ++ replicate (length stretch₀ - t) v ≡ take s stretch ++ replicate (length stretch₀ - s) v)

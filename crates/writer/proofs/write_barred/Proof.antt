@@ -1,4 +1,4 @@
--- `layers::write_barred` meets its contract: whatever bars the levels and the marks are of, what is written and the best way from here
+-- `writer::write_barred` meets its contract: whatever bars the levels and the marks are of, what is written and the best way from here
 -- are the best way from where it began. Assumes nothing.
 use borrow.Author.Needs.{needs}
 use native.Mathlib.Omega.{arith}
@@ -6,16 +6,16 @@ use Prim.Native.Nat.{ℕ, _+_, _-_, _*_}
 use mathlib.Core.Path.{sym, _∙_}
 use mathlib.Core.List.{List}
 use lib.ListN.{getD, length-replicate}
+use Rattle.lists.proofs.Parts.{part-within}
 use Rattle.routes.specs.declared.Bar.{Bar}
 use Rattle.marks.specs.Marks.{boundBy, Marked}
 use Rattle.marks.proofs.Places.{bounds}
 use Rattle.layers.specs.Layers.{wayFrom, Filled}
 use Rattle.layers.specs.Fill.{lentHall}
-use Rattle.layers.specs.Write.{writtenFrom}
-use Rattle.lists.proofs.Parts.{part-within}
-use Rattle.layers.proofs.WriteLaws.{Writing, layered-ways, write-begins, turns-before, write-turn, write-stays}
-use Rattle.layers.proofs.write_barred.Statement.{statement}
-use Rattle.layers.proofs.write_barred.Tie as tie
+use Rattle.writer.specs.Write.{writtenFrom}
+use Rattle.writer.proofs.WriteLaws.{Writing, layered-ways, write-begins, turns-before, write-turn, write-stays}
+use Rattle.writer.proofs.write_barred.Statement.{statement}
+use Rattle.writer.proofs.write_barred.Tie as tie
 
 abbrev Inv-loop : tie.InvT-loop
 Inv-loop hall width height goal h columns capacity node carrier layers step cell stretch₀ ways size v₀ t₀ stretch v t =

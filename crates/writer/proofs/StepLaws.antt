@@ -14,8 +14,8 @@ use Rattle.hall.specs.Moves.{landing, moveCount}
 use Rattle.hall.specs.Landing.{landed}
 use Rattle.hall.specs.declared.Landing.{Landing}
 use Rattle.hall.specs.declared.Landing.the-variants.{Off, Cell}
 use Rattle.layers.specs.Fill.{levelIn, halves, odd, unless, turnsBy}
-use Rattle.layers.specs.Write.{hasLevel, goneTo}
+use Rattle.writer.specs.Write.{hasLevel, goneTo}
 
 -- ---- one move
 

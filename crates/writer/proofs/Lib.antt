@@ -1,0 +1,6 @@
+pub mod OnwardLaws
+pub mod RouteLaws
+pub mod StayLaws
+pub mod StepLaws
+pub mod WayLaws
+pub mod WriteLaws
