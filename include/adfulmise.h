@@ -13,7 +13,7 @@
  *                           width * height of them
  *   width, height           columns and rows, 1 to 16 each; the number of a cell is row * width + column
  *   carriers, carriers_len  two bytes for each carrier, its start cell and its goal cell; 1 to 8 carriers. An odd byte at the
- *                           end is not read
+ *                           end is no carrier
  *   k                       how many steps each carrier may be late in all, 0 to 4
  *   h                       the horizon: routes have the steps 0 to h, h from 0 to 63
  *

@@ -12,7 +12,7 @@ eight = 0 ∷ 1 ∷ 2 ∷ 3 ∷ 4 ∷ 5 ∷ 6 ∷ 7 ∷ []
 abbrev pub teamBy : (ℕ → ℕ) → (ℕ → ℕ) → ℕ → Team
 teamBy start goal count = record { starts = map start eight; goals = map goal eight; count = count }
 
--- 'Kind 2: start and goal for each carrier': bytes, start and goal in turn. An odd byte at the end is not read.
+-- 'Kind 2: start and goal for each carrier': bytes, start and goal in turn. An odd byte at the end is no carrier.
 abbrev pub bytesTeam : List ℕ → Team
 bytesTeam bytes = teamBy (λ i. getD bytes (2 * i) 0) (λ i. getD bytes (2 * i + 1) 0) (length bytes / 2)
 

@@ -2,77 +2,37 @@
 -- Assumes nothing.
 use Prim.Native.Nat.{ℕ, _*_, _≤_, _<_}
 use native.Mathlib.Omega.{arith}
-use mathlib.Core.Bool.{Bool, true, false}
+use mathlib.Core.Bool.{true, false}
 use mathlib.Core.List.{List}
-use mathlib.Core.Option.{none, some}
-use mathlib.Core.Path.{_≡_, refl}
+use mathlib.Core.Path.{_≡_, refl, sym, subst}
 use lib.Dec.{eqb, ltb}
 use borrow.Author.Tests.{ltb-false}
 use Rattle.lists.proofs.Sums.{sum-at-most}
 use Rattle.lists.proofs.Tests.{or-fails}
 use Rattle.job.specs.Job.{Job, wrongCapacity}
-use Rattle.job.specs.Verdict.{verdictTold, judgeWith, ifAccepted}
+use Rattle.job.specs.Verdict.{judgeWith}
 use Rattle.job.specs.declared.Verdict.{Verdict}
-use Rattle.job.specs.declared.Verdict.the-variants.{Accepted, WrongGrid, WrongBytes, WrongLimits, WrongCount, WrongEnds, SharedEnds}
+use Rattle.job.specs.declared.Verdict.the-variants.{Accepted}
 use Rattle.job.proofs.Accepted.{accepted-facts}
 use Rattle.routes.specs.Route.{Lawful, cost}
 use Rattle.routes.proofs.Cost.{cost-least}
-use Rattle.search.specs.Search.{Outcome, done, full}
 use Rattle.tree.specs.Plan.{Routes, routeOf, total, Family}
 use Rattle.tree.specs.Promises.{LeastPlan}
-use Rattle.tree.specs.Tree.{Node, tree}
 use Rattle.tables.specs.Tables.{Tables, shortTable, planWritten}
-use Rattle.planner.specs.Answer.{Result, answerTold, searched, enough, planned}
+use Rattle.planner.specs.Answer.{answerTold, planned}
 use Rattle.planner.specs.Promises.{Promised}
 use Rattle.planner.specs.declared.Answer.{Answer}
 use Rattle.planner.specs.declared.Answer.the-variants.{Plan, Refused, Short, NoPlan, Full}
+use Rattle.planner.proofs.Known.{Known, known}
 use Rattle.planner.proofs.Promises.{planned-promised}
 use Rattle.lines.proofs.Small.{Small, SmallVerdict, bare-small, counted-small, judged-small}
 
--- ---- the job of an answer
-
-unfoldable Known : Job → ℕ → Tables → Answer → Type 0
-Known job n ts (Plan s r) = judgeWith (wrongCapacity n) job ≡ Accepted
-Known job n ts (Refused v) = (1 ≤ verdictTold v .number) × (verdictTold v .number ≤ 6) × SmallVerdict v
-Known job n ts Short = (judgeWith (wrongCapacity n) job ≡ Accepted) × (shortTable job n ts ≡ true)
-Known job n ts (NoPlan r) = judgeWith (wrongCapacity n) job ≡ Accepted
-Known job n ts (Full r) = judgeWith (wrongCapacity n) job ≡ Accepted
-
-abbrev KnownOf : Job → ℕ → Tables → Result → Type 0
-KnownOf job n ts result = Known job n ts (result .answer)
-
-module _ (job : Job) (n : ℕ) (ts : Tables) where
-  searched-known : (o : Outcome Node) → judgeWith (wrongCapacity n) job ≡ Accepted → KnownOf job n ts (searched job n ts o)
-  unfolding Known searched
-  searched-known (done (some x) r) e = e
-  searched-known (done none r) e = e
-  searched-known (full r) e = e
-
-  enough-known : judgeWith (wrongCapacity n) job ≡ Accepted → KnownOf job n ts (enough job n ts)
-  unfolding Known enough
-  enough-known e = go (shortTable job n ts) refl
-    where
-      go : (b : Bool) → shortTable job n ts ≡ b → KnownOf job n ts (elim b [ true ↦ record { answer = Short; tables = ts } | false ↦ searched job n ts (tree job n) ])
-      go true s = (e, s)
-      go false s = searched-known (tree job n) e
-
-  known : KnownOf job n ts (planned job n ts)
-  unfolding Known planned ifAccepted
-  known = go (judgeWith (wrongCapacity n) job) refl (judged-small (wrongCapacity n) job)
-    where
-      go : (v : Verdict) → judgeWith (wrongCapacity n) job ≡ v → SmallVerdict v → KnownOf job n ts (ifAccepted v (enough job n ts) (record { answer = Refused v; tables = ts }))
-      go Accepted e f = enough-known e
-      go WrongGrid e f = (omega arith, omega arith, f)
-      go WrongBytes e f = (omega arith, omega arith, f)
-      go WrongLimits e f = (omega arith, omega arith, f)
-      go WrongCount e f = (omega arith, omega arith, f)
-      go (WrongEnds i) e f = (omega arith, omega arith, f)
-      go (SharedEnds i j) e f = (omega arith, omega arith, f)
+-- ---- answer 7
 
 short-by : (job : Job) (n : ℕ) (ts : Tables) (answer : Answer) → Known job n ts answer → answerTold answer .number ≡ 7 → (judgeWith (wrongCapacity n) job ≡ Accepted) × (shortTable job n ts ≡ true)
 unfolding Known
 short-by job n ts (Plan s r) k is = absurd (omega arith)
-short-by job n ts (Refused v) k is = absurd (omega (arith, k .1))
+short-by job n ts (Refused v) k is = absurd (omega (arith, k .2))
 short-by job n ts Short k is = k
 short-by job n ts (NoPlan r) k is = absurd (omega arith)
 short-by job n ts (Full r) k is = absurd (omega arith)
@@ -108,7 +68,7 @@ answer-small : (job : Job) (n : ℕ) (ts : Tables) (answer : Answer) (after : Ta
 unfolding Promised Known
 answer-small job n ts (Plan s r) after (rs, least, written, few) k =
     counted-small 0 s r (omega arith) (omega (arith, least .told, total-small job n k rs (least .plan .family))) (records-small job n k r few)
-answer-small job n ts (Refused v) after p k = k .2
+answer-small job n ts (Refused v) after p k = subst SmallVerdict (sym (k .0)) (judged-small (wrongCapacity n) job)
 answer-small job n ts Short after p k = bare-small 7 (omega arith)
 answer-small job n ts (NoPlan r) after p k = counted-small 8 0 r (omega arith) (omega arith) (records-small job n k r (p .1))
 answer-small job n ts (Full r) after p k = counted-small 9 0 r (omega arith) (omega arith) (records-small job n k r (omega (arith, p .0)))
@@ -132,7 +92,7 @@ found : (job : Job) (n : ℕ) (ts : Tables) (answer : Answer) (after : Tables) �
 unfolding Promised Known
 found job n ts (Plan s r) after (rs, least, written, few) k is =
     record { routes = rs; sum = s; records = r; told = refl; least = least; written = written; made = few; accepted = k }
-found job n ts (Refused v) after p k is = absurd (omega (arith, k .0))
+found job n ts (Refused v) after p k is = absurd (omega (arith, k .1))
 found job n ts Short after p k is = absurd (omega arith)
 found job n ts (NoPlan r) after p k is = absurd (omega arith)
 found job n ts (Full r) after p k is = absurd (omega arith)

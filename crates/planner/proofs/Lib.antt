@@ -2,6 +2,7 @@ pub mod Answers
 pub mod Broken
 pub mod Cells
 pub mod Children
+pub mod Known
 pub mod Promises
 pub mod Settled
 pub mod Stars

@@ -4,11 +4,11 @@ use Prim.Native.Nat.{ℕ, _≤_, _<_}
 use native.Mathlib.Omega.{arith}
 use native.Mathlib.Decide.{decLe}
 use mathlib.Core.Path.{_≡_, refl, sym, ap, subst, _∙_}
-use mathlib.Core.Bool.{Bool, true, false}
+use mathlib.Core.Bool.{true, false}
 use mathlib.Core.Logic.{_⊎_, inl, inr}
 use mathlib.Core.Option.{Option, none, some}
 use Rattle.job.specs.Job.{Job, wrongCapacity}
-use Rattle.job.specs.Verdict.{judgeWith, verdictTold, ifAccepted}
+use Rattle.job.specs.Verdict.{judgeWith, ifAccepted}
 use Rattle.job.specs.declared.Verdict.{Verdict}
 use Rattle.job.specs.declared.Verdict.the-variants.{Accepted, WrongGrid, WrongBytes, WrongLimits, WrongCount, WrongEnds, SharedEnds}
 use Rattle.job.proofs.Accepted.{accepted-facts}
@@ -24,6 +24,7 @@ use Rattle.planner.specs.Promises.{Promised}
 use Rattle.planner.specs.Post.{Planned}
 use Rattle.planner.specs.declared.Answer.{Answer}
 use Rattle.planner.specs.declared.Answer.the-variants.{Plan, Refused, Short, NoPlan, Full}
+use Rattle.planner.proofs.Known.{Known, known}
 use Rattle.planner.proofs.Promises.{one-record}
 use Rattle.planner.proofs.Settled.{plan-settled}
 use Rattle.lines.proofs.Fits.{page-whole as whole}
@@ -32,21 +33,9 @@ use Rattle.promises.specs.Promises.{numberOf, Runs, AlwaysNumbered, Refu
 
 -- ---- what the definitions give
 
-verdict-numbered : (v : Verdict) → verdictTold v .number ≤ 9
-verdict-numbered Accepted = omega arith
-verdict-numbered WrongGrid = omega arith
-verdict-numbered WrongBytes = omega arith
-verdict-numbered WrongLimits = omega arith
-verdict-numbered WrongCount = omega arith
-verdict-numbered (WrongEnds i) = omega arith
-verdict-numbered (SharedEnds i j) = omega arith
-
-numbered : (r : Answer) → numberOf r ≤ 9
-numbered (Plan s k) = omega arith
-numbered (Refused v) = verdict-numbered v
-numbered Short = omega arith
-numbered (NoPlan k) = omega arith
-numbered (Full k) = omega arith
+-- what its number tells of the job
+known-of : (job : Job) (n : ℕ) (before : Tables) (r : Answer) (after : Tables) → Planned job n before r after → Known job n before r
+known-of job n before r after p = subst (Known job n before) (sym (p .told)) (known job n before)
 
 refused : (v : Verdict) (go : Result) (stop : Result) → (v ≡ Accepted → ⊥) → ifAccepted v go stop ≡ stop
 unfolding ifAccepted
@@ -85,8 +74,12 @@ module _ (job : Job) (n : ℕ) (before : Tables) where
 -- ---- 1
 
 pub always-numbered : AlwaysNumbered
-unfolding AlwaysNumbered
-always-numbered job n before r after p = numbered r
+unfolding AlwaysNumbered Known
+always-numbered job n before (Plan s k) after p = omega arith
+always-numbered job n before (Refused v) after p = let k = known-of job n before (Refused v) after p in omega (arith, k .2)
+always-numbered job n before Short after p = omega arith
+always-numbered job n before (NoPlan k) after p = omega arith
+always-numbered job n before (Full k) after p = omega arith
 
 pub refuses-first : RefusesFirst
 unfolding RefusesFirst
@@ -119,75 +112,20 @@ nothing-else = plan-settled
 
 -- ---- 2
 
-refusal-some : (v : Verdict) → (v ≡ Accepted → ⊥) → verdictTold v .number ≡ 0 → ⊥
-refusal-some Accepted n e = n refl
-refusal-some WrongGrid n e = omega arith
-refusal-some WrongBytes n e = omega arith
-refusal-some WrongLimits n e = omega arith
-refusal-some WrongCount n e = omega arith
-refusal-some (WrongEnds i) n e = omega arith
-refusal-some (SharedEnds i j) n e = omega arith
-
-refusal-low : (v : Verdict) → verdictTold v .number ≤ 6
-refusal-low Accepted = omega arith
-refusal-low WrongGrid = omega arith
-refusal-low WrongBytes = omega arith
-refusal-low WrongLimits = omega arith
-refusal-low WrongCount = omega arith
-refusal-low (WrongEnds i) = omega arith
-refusal-low (SharedEnds i j) = omega arith
-
-accepts : (v : Verdict) → Dec (v ≡ Accepted)
-accepts Accepted = yes refl
-accepts WrongGrid = no (λ e. let z : _≡_ {A = ℕ} 0 1 = cc in absurd (omega arith))
-accepts WrongBytes = no (λ e. let z : _≡_ {A = ℕ} 0 1 = cc in absurd (omega arith))
-accepts WrongLimits = no (λ e. let z : _≡_ {A = ℕ} 0 1 = cc in absurd (omega arith))
-accepts WrongCount = no (λ e. let z : _≡_ {A = ℕ} 0 1 = cc in absurd (omega arith))
-accepts (WrongEnds i) = no (λ e. let z : _≡_ {A = ℕ} 0 1 = cc in absurd (omega arith))
-accepts (SharedEnds i j) = no (λ e. let z : _≡_ {A = ℕ} 0 1 = cc in absurd (omega arith))
-
-module _ (job : Job) (n : ℕ) (before : Tables) (v : Verdict) where
-  searched-not-refused : (o : Outcome Node) → Refused v ≡ searched job n before o .answer → ⊥
-  unfolding searched
-  searched-not-refused (done (some x) k) e = let z : _≡_ {A = ℕ} 0 1 = cc in absurd (omega arith)
-  searched-not-refused (done none k) e = let z : _≡_ {A = ℕ} 0 1 = cc in absurd (omega arith)
-  searched-not-refused (full k) e = let z : _≡_ {A = ℕ} 0 1 = cc in absurd (omega arith)
-
-  enough-not-refused : Refused v ≡ enough job n before .answer → ⊥
-  enough-not-refused e = go (shortTable job n before) refl
-    where
-      go : (b : Bool) → shortTable job n before ≡ b → ⊥
-      go true q =
-          let f : Refused v ≡ Short = e ∙ ap (λ x. x .answer) (enough-short job n before q) in
-          let z : _≡_ {A = ℕ} 0 1 = cc in
-          absurd (omega arith)
-      go false q = searched-not-refused (tree job n) (e ∙ ap (λ x. x .answer) (enough-long job n before q))
-
-  -- a refusal has a number of its own
-  refused-some : Refused v ≡ planned job n before .answer → verdictTold v .number ≡ 0 → ⊥
-  refused-some e = go (accepts (judgeWith (wrongCapacity n) job))
-    where
-      go : Dec (judgeWith (wrongCapacity n) job ≡ Accepted) → verdictTold v .number ≡ 0 → ⊥
-      go (yes a) z = enough-not-refused (e ∙ ap (λ x. x .answer) (planned-accepted job n before a))
-      go (no k) z =
-          let f : Refused v ≡ Refused (judgeWith (wrongCapacity n) job) = e ∙ ap (λ x. x .answer) (planned-refused job n before k) in
-          let g : v ≡ judgeWith (wrongCapacity n) job = cc in
-          refusal-some v (λ q. k (sym g ∙ q)) z
-
 pub zero-is-least : ZeroIsLeast
-unfolding ZeroIsLeast Promised
+unfolding ZeroIsLeast Promised Known
 zero-is-least job n before (Plan s k) after p e =
     let (rs, least, written, few) = p .promised in
     (rs, record { written = written; plan = least .plan; sum = least .told; least = least .least; safe = least .safe; least-safe = least .least-safe })
-zero-is-least job n before (Refused v) after p e = absurd (refused-some job n before v (p .told) e)
+zero-is-least job n before (Refused v) after p e = absurd (let k = known-of job n before (Refused v) after p in omega (arith, k .1))
 zero-is-least job n before Short after p e = absurd (omega arith)
 zero-is-least job n before (NoPlan k) after p e = absurd (omega arith)
 zero-is-least job n before (Full k) after p e = absurd (omega arith)
 
 pub eight-is-none : EightIsNone
-unfolding EightIsNone Promised NoneExists
+unfolding EightIsNone Promised NoneExists Known
 eight-is-none job n before (Plan s k) after p e = absurd (omega arith)
-eight-is-none job n before (Refused v) after p e = absurd (let low = refusal-low v in omega arith)
+eight-is-none job n before (Refused v) after p e = absurd (let k = known-of job n before (Refused v) after p in omega (arith, k .2))
 eight-is-none job n before Short after p e = absurd (omega arith)
 eight-is-none job n before (NoPlan k) after p e = p .promised .0
 eight-is-none job n before (Full k) after p e = absurd (omega arith)
