@@ -1,40 +1,19 @@
 -- What filling does to one cell, as the code does it: each function's answer is the definition's, case by case.
 -- Assumes nothing.
-use Prim.Native.Nat.{ℕ, zero, suc, _+_, _*_, _/_, _%_, _≤_, _<_}
+use Prim.Native.Nat.{ℕ, zero, suc, _+_, _≤_}
 use native.Mathlib.Omega.{arith}
 use mathlib.Core.Path.{_≡_, refl}
 use mathlib.Core.Bool.{Bool, true, false, not, _&&_}
-use mathlib.Core.List.{List, map}
 use lib.Dec.{eqb}
-use lib.Arith.{digits-div, digits-mod}
 use borrow.Author.Tests.{eq-eqb, ne-eqb, eqb-false}
 use Rattle.routes.proofs.Cost.{step-most}
 use Rattle.hall.specs.Hall.{Hall, isOpen}
 use Rattle.routes.specs.Route.{stepCost}
 use Rattle.layers.specs.Layers.{crossingStarts}
-use Rattle.layers.specs.Fill.{lentHall, levelIn, leastOf, turnsBy, afterStep, mayBegin, madeLevel, lastLevel, madeByte, lastByte}
-use Rattle.layers.proofs.LeastLaws.{least-most}
+use Rattle.layers.specs.Fill.{afterStep, mayBegin, lastLevel, lastByte}
 
--- ---- the cell
+-- ---- a step more in front
 
-pub cell-barred : (hall : Hall) (goal : ℕ) (f : ℕ → ℕ) (v mark : ℕ) → mark ≡ 255 → 127 ≡ madeLevel hall goal f v mark
-unfolding madeLevel mayBegin
-cell-barred hall goal f v mark e = go (isOpen hall v) (eqb mark 255) (eq-eqb mark 255 e)
-  where
-    go : (a b : Bool) → b ≡ true → _≡_ {A = ℕ} 127 (elim (a && not b) [ true ↦ afterStep (eqb v goal) (leastOf (map f (turnsBy (hall .width) (hall .height) (v / hall .width) (v % hall .width) mark))) | false ↦ 127 ])
-    go true b e = rw e
-    go false b e = refl
-
-pub cell-closed : (hall : Hall) (goal : ℕ) (f : ℕ → ℕ) (v mark : ℕ) → isOpen hall v ≡ false → 127 ≡ madeLevel hall goal f v mark
-unfolding madeLevel mayBegin
-cell-closed hall goal f v mark e = rw (madeLevel, mayBegin, e)
-
-pub cell-goes-on : (width height : ℕ) (bytes : List ℕ) (goal : ℕ) (f : ℕ → ℕ) (row col mark r : ℕ) → col < width → (mark ≡ 255 → ⊥) → isOpen (lentHall width height bytes) (row * width + col) ≡ true → r ≡ afterStep (eqb (row * width + col) goal) (leastOf (map f (turnsBy width height row col mark))) → r ≡ madeLevel (lentHall width height bytes) goal f (row * width + col) mark
-unfolding madeLevel mayBegin
-cell-goes-on width height bytes goal f row col mark r c n e k =
-    rw (madeLevel, mayBegin, e, ne-eqb mark 255 n, digits-div row {m = width} {r = col} c, digits-mod row {m = width} {r = col} c) k
-
--- a step more in front
 pub step-none : (b : Bool) (least : ℕ) → least ≡ 127 → 127 ≡ afterStep b least
 unfolding afterStep
 step-none b least e = rw e
@@ -62,14 +41,6 @@ step-small b least h = go b (eqb least 127) refl
     go : (b c : Bool) → eqb least 127 ≡ c → elim c [ true ↦ 127 | false ↦ stepCost b least ] ≤ 127
     go b true e = omega arith
     go b false e = let n : ¬ (least ≡ 127) = eqb-false least 127 e in omega (arith, step-most b least)
-
-made-small : (hall : Hall) (goal : ℕ) (f : ℕ → ℕ) (v mark : ℕ) → madeLevel hall goal f v mark ≤ 127
-unfolding madeLevel
-made-small hall goal f v mark = go (mayBegin hall v mark)
-  where
-    go : (b : Bool) → elim b [ true ↦ afterStep (eqb v goal) (leastOf (map f (turnsBy (hall .width) (hall .height) (v / hall .width) (v % hall .width) mark))) | false ↦ 127 ] ≤ 127
-    go true = step-small (eqb v goal) (leastOf (map f (turnsBy (hall .width) (hall .height) (v / hall .width) (v % hall .width) mark))) (least-most (map f (turnsBy (hall .width) (hall .height) (v / hall .width) (v % hall .width) mark)))
-    go false = omega arith
 
 last-small : (hall : Hall) (goal v mark : ℕ) → lastLevel hall goal v mark ≤ 127
 unfolding lastLevel
@@ -127,13 +98,6 @@ unfolding lastLevel mayBegin
 last-there hall goal v mark n k e = rw (lastLevel, mayBegin, e, ne-eqb mark 255 n, eq-eqb v goal k)
 
 -- ---- the byte: a level, and whether a crossing starts
-
-pub byte-made : (hall : Hall) (goal : ℕ) (layers : List ℕ) (next v mark l x : ℕ) → l ≡ madeLevel hall goal (levelIn layers next) v mark → x ≡ crossingStarts mark → (l + x ≤ 255) × (l + x ≡ madeByte hall goal layers next v mark)
-unfolding madeByte
-byte-made hall goal layers next v mark l x e k =
-    let small = made-small hall goal (levelIn layers next) v mark in
-    let low = crossing-small mark in
-    (omega arith, omega arith)
 
 pub byte-last : (hall : Hall) (goal v mark l x : ℕ) → l ≡ lastLevel hall goal v mark → x ≡ crossingStarts mark → (l + x ≤ 255) × (l + x ≡ lastByte hall goal v mark)
 unfolding lastByte

@@ -5,7 +5,7 @@ use native.Mathlib.Nat.{mul-comm, div-lt-iff-lt-mul, mod-lt}
 use native.Mathlib.Omega.{arith}
 use mathlib.Core.Path.{_≡_, refl, sym, ap, subst, _∙_}
 use mathlib.Core.List.{[], List·Memᴰ, List·Memᴰ·head}
-use lib.Arith.{digits-lt, digits-div, digits-mod}
+use lib.Arith.{digits-div, digits-mod}
 use Rattle.lists.specs.Lists.{range}
 use Rattle.lists.proofs.Members.{member-each, member-range}
 use Rattle.hall.specs.Moves.{landing, moveCount, reach, reachFrom}
@@ -14,9 +14,6 @@ use Rattle.hall.specs.declared.Landing.{Landing}
 use Rattle.hall.specs.declared.Landing.the-variants.{Cell}
 use Rattle.hall.proofs.Reach.{reach-inside}
 use Rattle.layers.specs.Fill.{lentHall}
-
-pub cell-inside : (width height row col : ℕ) → row < height → col < width → row * width + col < width * height
-cell-inside width height row col r c = rw (mul-comm width height) (digits-lt {q = row} {m = height} {r = col} {c = width} r c)
 
 pub place-inside : (width height v : ℕ) → 1 ≤ width → v < width * height → (v / width < height) × (v % width < width)
 place-inside width height v w h = (div-lt-iff-lt-mul {k = width} {x = v} {y = height} w .1 (rw (mul-comm width height) at h), mod-lt v w)

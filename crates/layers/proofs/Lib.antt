@@ -1,3 +1,4 @@
+pub mod BottomLaws
 pub mod CellLaws
 pub mod CellPlaces
 pub mod Filled

@@ -2,7 +2,7 @@
 -- more, one row more and one layer more keep what is said of the rest.
 -- Assumes nothing.
 use Prim.Native.Nat.{ℕ, _+_, _*_, _/_, _%_, _≤_, _<_}
-use native.Mathlib.Nat.{mul-comm, suc-mul}
+use native.Mathlib.Nat.{suc-mul}
 use native.Mathlib.Omega.{arith}
 use native.Mathlib.Numerals.{add-one}
 use native.Mathlib.Decide.{ℕ-discrete, decLt}
@@ -87,14 +87,6 @@ module _ (hall : Hall) (goal base lo mid hi : ℕ) (a b c : List ℕ) (inside : 
   row-same : Made base mid hi (madeByte hall goal a (base + size hall)) a b → (v mark : ℕ) → madeByte hall goal b (base + size hall) v mark ≡ madeByte hall goal a (base + size hall) v mark
   row-same m v mark = byte-same hall goal a b (base + size hall) v mark (λ w l. m .over (base + size hall + w) (omega arith))
 
-  -- one cell more of a row
-  pub row-more : Made base mid hi (madeByte hall goal a (base + size hall)) a b → lo + 1 ≡ mid → mid ≤ hi → base + size hall ≤ length a → c ≡ set b (base + lo) (madeByte hall goal b (base + size hall) lo (getD b (base + lo) 0)) → Made base lo hi (madeByte hall goal a (base + size hall)) a c
-  row-more m e l room k =
-      subst (λ x. Made base lo hi (madeByte hall goal a (base + size hall)) a x) (sym k)
-      (made-more base lo hi (madeByte hall goal a (base + size hall)) a b (subst (λ x. Made base x hi (madeByte hall goal a (base + size hall)) a b) (sym e) m) (omega arith) (omega arith)
-      (madeByte hall goal b (base + size hall) lo (getD b (base + lo) 0))
-      (row-same m lo (getD b (base + lo) 0) ∙ ap (madeByte hall goal a (base + size hall) lo) (m .under (base + lo) (omega arith))))
-
   -- one row more of a layer
   pub rows-more : Made base mid hi (madeByte hall goal a (base + size hall)) a b → Made base lo mid (madeByte hall goal b (base + size hall)) b c → lo ≤ mid → mid ≤ hi → Made base lo hi (madeByte hall goal a (base + size hall)) a c
   rows-more m n low high = made-join base lo mid hi (madeByte hall goal a (base + size hall)) (madeByte hall goal b (base + size hall)) a b c m n (row-same m) low high
@@ -139,9 +131,6 @@ last-more hall goal base lo mid hi a b c m e l room k =
 
 pub one-more : (t n : ℕ) → (t + 1) * n ≡ t * n + n
 one-more t n = rw (add-one, suc-mul)
-
-pub rows-inside : (width height row : ℕ) → row < height → row * width + width ≤ width * height
-rows-inside width height row l = rw (mul-comm width height) (part-within row height width l)
 
 module _ (hall : Hall) (goal h : ℕ) (marks : List ℕ) where
   pub layers-none : MadeFrom hall goal h h marks marks

@@ -8,33 +8,46 @@ use mathlib.Core.Path.{_≡_, refl, ap, _∙_}
 use mathlib.Core.Bool.{Bool, true, false, _||_}
 use mathlib.Core.List.{List}
 use lib.Dec.{eqb}
-use lib.ListN.{getD}
+use lib.ListN.{length, getD}
 use borrow.Author.Tests.{eq-eqb, ne-eqb}
 use Rattle.hall.specs.Moves.{rowChanges, colChanges, moveCount}
 use Rattle.layers.specs.Layers.{crossingStarts}
-use Rattle.layers.specs.Fill.{halves, odd, afterStep, leastTo, nearEntry, orNone, nearLevel, nearByte}
+use Rattle.layers.specs.Fill.{halves, odd, afterStep, leastTo, nearEntry, orNone, nearLevel, NearWithin, nearByte}
 use Rattle.layers.proofs.LeastLaws.{leastTo-most}
 use Rattle.layers.proofs.CellLaws.{step-arrives, step-more, step-small, crossing-small}
 
 -- ---- one move
 
 -- where the entry of a move lies, with the changes d and r of row and column
-pub record Near (width under d r : ℕ) : Type 0 where
+pub record Near (width under m d r : ℕ) : Type 0 where
   pub down : width * d ≤ width + width
   pub right : r ≤ 2
   pub low : width + 1 ≤ under + width * d + r
   pub high : under + width * d + r - (width + 1) ≤ under + width
+  pub entry : under + width * d + r - (width + 1) ≡ nearEntry width under m
 
-near-at : (width under m : ℕ) → m < moveCount → 1 ≤ width → width ≤ under → Near width under (getD rowChanges m 1) (getD colChanges m 1)
-near-at width under zero h i j = record { down = omega arith; right = omega arith; low = omega arith; high = omega arith }
-near-at width under (suc zero) h i j = record { down = omega arith; right = omega arith; low = omega arith; high = omega arith }
-near-at width under (suc (suc zero)) h i j = record { down = omega arith; right = omega arith; low = omega arith; high = omega arith }
-near-at width under (suc (suc (suc zero))) h i j = record { down = omega arith; right = omega arith; low = omega arith; high = omega arith }
-near-at width under (suc (suc (suc (suc zero)))) h i j = record { down = omega arith; right = omega arith; low = omega arith; high = omega arith }
+near-at : (width under m : ℕ) → m < moveCount → 1 ≤ width → width ≤ under → Near width under m (getD rowChanges m 1) (getD colChanges m 1)
+unfolding nearEntry
+near-at width under zero h i j = record { down = omega arith; right = omega arith; low = omega arith; high = omega arith; entry = refl }
+near-at width under (suc zero) h i j = record { down = omega arith; right = omega arith; low = omega arith; high = omega arith; entry = refl }
+near-at width under (suc (suc zero)) h i j = record { down = omega arith; right = omega arith; low = omega arith; high = omega arith; entry = refl }
+near-at width under (suc (suc (suc zero))) h i j = record { down = omega arith; right = omega arith; low = omega arith; high = omega arith; entry = refl }
+near-at width under (suc (suc (suc (suc zero)))) h i j = record { down = omega arith; right = omega arith; low = omega arith; high = omega arith; entry = refl }
 near-at width under (suc (suc (suc (suc (suc m))))) h i j = absurd (omega arith)
 
-pub near-facts : (width under m d r : ℕ) → m < moveCount → 1 ≤ width → width ≤ under → d ≡ getD rowChanges m 1 → r ≡ getD colChanges m 1 → Near width under d r
+pub near-facts : (width under m d r : ℕ) → m < moveCount → 1 ≤ width → width ≤ under → d ≡ getD rowChanges m 1 → r ≡ getD colChanges m 1 → Near width under m d r
 near-facts width under m d r h i j e k = rw (e, k) (near-at width under m h i j)
+
+-- where a row lies below, all five lie within
+pub near-all : (width under : ℕ) (layers : List ℕ) → 1 ≤ width → width ≤ 16 → width ≤ under → under + width < length layers → NearWithin width under moveCount layers
+unfolding nearEntry
+near-all width under layers i n j room =
+    record { wide = i; narrow = n; above = j; some = omega arith; inside = λ m l. let b = near-at width under m l i j in omega (arith, b .high) }
+
+pub second-bars : (a b : Bool) (level : ℕ) → b ≡ true → 127 ≡ orNone (a || b) level
+unfolding orNone
+second-bars true b level e = refl
+second-bars false b level e = rw e
 
 module _ (rest shut : ℕ) (level : ℕ) where
   pub digit-bars : rest % 2 ≡ 1 → 127 ≡ orNone (odd rest || odd shut) level
@@ -43,11 +56,7 @@ module _ (rest shut : ℕ) (level : ℕ) where
 
   pub floor-bars : shut % 2 ≡ 1 → 127 ≡ orNone (odd rest || odd shut) level
   unfolding odd
-  floor-bars e = go (eqb (rest % 2) 1) (eqb (shut % 2) 1) (eq-eqb (shut % 2) 1 e)
-    where
-      go : (a b : Bool) → b ≡ true → 127 ≡ orNone (a || b) level
-      go true b e = unfold orNone in refl
-      go false b e = unfold orNone in rw e
+  floor-bars e = second-bars (eqb (rest % 2) 1) (eqb (shut % 2) 1) level (eq-eqb (shut % 2) 1 e)
 
   none-bars : (rest % 2 ≡ 1 → ⊥) → (shut % 2 ≡ 1 → ⊥) → level ≡ orNone (odd rest || odd shut) level
   unfolding odd orNone
@@ -59,19 +68,19 @@ near-read layers width under m d r rest shut e k n o = rw (e, k) (none-bars rest
 
 -- ---- the least level, move by move
 
--- the walk after m moves
-pub record NearWalked (layers : List ℕ) (width under mark floor least rest shut m : ℕ) : Type 0 where
-  pub within : m ≤ moveCount
+-- the walk after m of the moves
+pub record NearWalked (layers : List ℕ) (width under mark floor moves least rest shut m : ℕ) : Type 0 where
+  pub within : m ≤ moves
   pub digits : rest ≡ halves m mark
   pub edges : shut ≡ halves m floor
   pub lowest : least ≡ leastTo m (nearLevel layers width under mark floor)
 
-module _ (layers : List ℕ) (width under mark floor : ℕ) where
-  pub near-begins : NearWalked layers width under mark floor 127 mark floor 0
+module _ (layers : List ℕ) (width under mark floor moves : ℕ) where
+  pub near-begins : NearWalked layers width under mark floor moves 127 mark floor 0
   unfolding halves leastTo
   near-begins = record { within = omega arith; digits = refl; edges = refl; lowest = refl }
 
-  pub near-more : (least rest shut m r s : ℕ) → NearWalked layers width under mark floor least rest shut m → m < moveCount → r ≡ orNone (odd rest || odd shut) (getD layers (nearEntry width under m) 0 % 128) → s ≡ min least r → NearWalked layers width under mark floor s (rest / 2) (shut / 2) (m + 1)
+  pub near-more : (least rest shut m r s : ℕ) → NearWalked layers width under mark floor moves least rest shut m → m < moves → r ≡ orNone (odd rest || odd shut) (getD layers (nearEntry width under m) 0 % 128) → s ≡ min least r → NearWalked layers width under mark floor moves s (rest / 2) (shut / 2) (m + 1)
   unfolding halves leastTo nearLevel
   near-more least rest shut m r s w l e k =
       record {
@@ -81,9 +90,9 @@ module _ (layers : List ℕ) (width under mark floor : ℕ) where
         lowest = rw (add-one, k, e, w .lowest, w .digits, w .edges);
       }
 
-  pub near-ends : (least rest shut m : ℕ) → NearWalked layers width under mark floor least rest shut m → moveCount ≤ m → least ≡ leastTo moveCount (nearLevel layers width under mark floor)
+  pub near-ends : (least rest shut m : ℕ) → NearWalked layers width under mark floor moves least rest shut m → moves ≤ m → least ≡ leastTo moves (nearLevel layers width under mark floor)
   near-ends least rest shut m w l =
-      let e : m ≡ moveCount = omega (arith, w .within) in
+      let e : m ≡ moves = omega (arith, w .within) in
       w .lowest ∙ ap (λ k. leastTo k (nearLevel layers width under mark floor)) e
 
 -- ---- the byte
@@ -98,11 +107,7 @@ module _ (mark floor least : ℕ) where
   on-barred e = rw e
 
   pub on-closed : floor ≡ 255 → 127 ≡ orNone (eqb mark 255 || eqb floor 255) (afterStep false least)
-  on-closed e = go (eqb mark 255) (eqb floor 255) (eq-eqb floor 255 e)
-    where
-      go : (a b : Bool) → b ≡ true → 127 ≡ orNone (a || b) (afterStep false least)
-      go true b e = unfold orNone in refl
-      go false b e = unfold orNone in rw e
+  on-closed e = second-bars (eqb mark 255) (eqb floor 255) (afterStep false least) (eq-eqb floor 255 e)
 
   pub on-none : (mark ≡ 255 → ⊥) → (floor ≡ 255 → ⊥) → least ≡ 127 → 127 ≡ orNone (eqb mark 255 || eqb floor 255) (afterStep false least)
   unfolding orNone afterStep
@@ -117,11 +122,11 @@ unfolding orNone
 or-none-small true l h = omega arith
 or-none-small false l h = h
 
-pub near-made : (layers : List ℕ) (width under mark floor least l x : ℕ) → least ≡ leastTo moveCount (nearLevel layers width under mark floor) → l ≡ orNone (eqb mark 255 || eqb floor 255) (afterStep false least) → x ≡ crossingStarts mark → (l + x ≤ 255) × (l + x ≡ nearByte layers width under mark floor)
+pub near-made : (layers : List ℕ) (width under mark floor moves least l x : ℕ) → least ≡ leastTo moves (nearLevel layers width under mark floor) → l ≡ orNone (eqb mark 255 || eqb floor 255) (afterStep false least) → x ≡ crossingStarts mark → (l + x ≤ 255) × (l + x ≡ nearByte layers width under mark floor moves)
 unfolding nearByte
-near-made layers width under mark floor least l x e k q =
-    let most : leastTo moveCount (nearLevel layers width under mark floor) ≤ 127 = leastTo-most moveCount (nearLevel layers width under mark floor) in
-    let small = or-none-small (eqb mark 255 || eqb floor 255) (afterStep false (leastTo moveCount (nearLevel layers width under mark floor))) (step-small false (leastTo moveCount (nearLevel layers width under mark floor)) most) in
+near-made layers width under mark floor moves least l x e k q =
+    let most : leastTo moves (nearLevel layers width under mark floor) ≤ 127 = leastTo-most moves (nearLevel layers width under mark floor) in
+    let small = or-none-small (eqb mark 255 || eqb floor 255) (afterStep false (leastTo moves (nearLevel layers width under mark floor))) (step-small false (leastTo moves (nearLevel layers width under mark floor)) most) in
     let low = crossing-small mark in
-    let same : l ≡ orNone (eqb mark 255 || eqb floor 255) (afterStep false (leastTo moveCount (nearLevel layers width under mark floor))) = k ∙ ap (λ y. orNone (eqb mark 255 || eqb floor 255) (afterStep false y)) e in
+    let same : l ≡ orNone (eqb mark 255 || eqb floor 255) (afterStep false (leastTo moves (nearLevel layers width under mark floor))) = k ∙ ap (λ y. orNone (eqb mark 255 || eqb floor 255) (afterStep false y)) e in
     (omega arith, omega arith)

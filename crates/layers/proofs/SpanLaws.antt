@@ -9,25 +9,26 @@ use mathlib.Core.List.{List, map}
 use lib.Dec.{eqb}
 use lib.ListN.{length, getD, set}
 use borrow.Author.Tests.{eq-eqb, ne-eqb, lt-ltb, le-ltb, le-leb, lt-leb}
+use Rattle.lists.proofs.Parts.{part-within}
 use Rattle.hall.specs.Hall.{Hall, size}
 use Rattle.layers.specs.Layers.{crossingStarts}
 use Rattle.layers.specs.Fill.{lentHall, levelIn, leastOf, turnsBy, afterStep, mayBegin, madeLevel, madeByte, Floored, nearByte, restedByte, spanStart, Made, FilledFrom}
 use Rattle.layers.proofs.Filled.{read-level}
-use Rattle.layers.proofs.MadeLaws.{made-up, byte-same, rows-more, one-more, rows-inside}
+use Rattle.layers.proofs.MadeLaws.{made-up, byte-same, rows-more}
 use Rattle.layers.proofs.LeastLaws.{least-most}
 use Rattle.layers.proofs.CellLaws.{step-none, step-stays, step-arrives, step-more}
-use Rattle.layers.proofs.NearMade.{near-is-made}
+use Rattle.layers.proofs.NearMade.{PastEnd, near-is-made}
 
 -- ---- a span
 
-module _ (width height : ℕ) (bytes floor : List ℕ) (base from v : ℕ) (a b c : List ℕ) where
-  -- one cell more
-  pub span-more : from ≤ v → v < width * height → base + width * height + v < length a → Floored (lentHall width height bytes) floor → Made base from v (madeByte (lentHall width height bytes) (width * height) a (base + width * height)) a b → c ≡ set b (base + v) (nearByte b width (base + width * height + v) (getD b (base + v) 0) (getD floor v 0)) → Made base from (v + 1) (madeByte (lentHall width height bytes) (width * height) a (base + width * height)) a c
-  span-more low high room laid m e =
+module _ (width height : ℕ) (bytes floor : List ℕ) (base from v moves : ℕ) (a b c : List ℕ) where
+  -- one cell more: the moves that are not read lead past the next layer
+  pub span-more : from ≤ v → v < width * height → base + width * height + v < length a → Floored (lentHall width height bytes) floor → PastEnd width height (base + width * height) v moves → Made base from v (madeByte (lentHall width height bytes) (width * height) a (base + width * height)) a b → c ≡ set b (base + v) (nearByte b width (base + width * height + v) (getD b (base + v) 0) (getD floor v 0) moves) → Made base from (v + 1) (madeByte (lentHall width height bytes) (width * height) a (base + width * height)) a c
+  span-more low high room laid end m e =
       rw e
       (made-up base from v (madeByte (lentHall width height bytes) (width * height) a (base + width * height)) a b m low (omega arith)
-      (nearByte b width (base + width * height + v) (getD b (base + v) 0) (getD floor v 0))
-      (near-is-made width height bytes b (base + width * height) v (getD b (base + v) 0) (getD floor v 0) high (laid .marks v high)
+      (nearByte b width (base + width * height + v) (getD b (base + v) 0) (getD floor v 0) moves)
+      (near-is-made width height bytes b (base + width * height) v (getD b (base + v) 0) (getD floor v 0) moves high (laid .marks v high) end
       ∙ byte-same (lentHall width height bytes) (width * height) a b (base + width * height) v (getD b (base + v) 0) (λ w l. m .over (base + width * height + w) (omega arith))
       ∙ ap (madeByte (lentHall width height bytes) (width * height) a (base + width * height) v) (m .over (base + v) (omega arith))))
 
@@ -37,7 +38,7 @@ span-all base from to v byte a b low high m = let same : v ≡ to = omega arith 
 -- ---- the rows of a layer, joined
 
 pub rows-some : (width height : ℕ) → 1 ≤ height → width ≤ width * height
-rows-some width height h = let inside = rows-inside width height 0 h in omega arith
+rows-some width height h = rw (mul-comm width height) (omega (arith, part-within 0 height width h))
 
 pub start-last : (width size end : ℕ) → size ≤ end → size - width ≡ spanStart width size end
 unfolding spanStart
@@ -60,18 +61,9 @@ start-before width size end wide some h = go (decLe size end) (decLt width end)
     go (no n) (no k) = omega (arith, start-first width size end n k)
 
 module _ (width height : ℕ) (bytes : List ℕ) (base : ℕ) (a : List ℕ) where
-  -- the last row is, by its cells
-  pub bottom-row : (b : List ℕ) → 1 ≤ height → base + width * height + width * height ≤ length a → Made base ((height - 1) * width) ((height - 1) * width + width) (madeByte (lentHall width height bytes) (width * height) a (base + width * height)) a b → FilledFrom (lentHall width height bytes) base a (width * height - width) b
-  bottom-row b some room m =
-      let less : height - 1 + 1 ≡ height = omega arith in
-      let end : (height - 1) * width + width ≡ width * height = sym (one-more (height - 1) width) ∙ ap (λ x. x * width) less ∙ mul-comm height width in
-      let start : (height - 1) * width ≡ width * height - width = omega arith in
-      record {
-        within = omega arith;
-        room = omega arith;
-        made = subst (λ x. Made base x (width * height) (madeByte (lentHall width height bytes) (width * height) a (base + width * height)) a b) start
-            (subst (λ x. Made base ((height - 1) * width) x (madeByte (lentHall width height bytes) (width * height) a (base + width * height)) a b) end m);
-      }
+  -- the last row
+  pub bottom-filled : (b : List ℕ) → width ≤ width * height → base + width * height + width * height ≤ length a → Made base (width * height - width) (width * height) (madeByte (lentHall width height bytes) (width * height) a (base + width * height)) a b → FilledFrom (lentHall width height bytes) base a (width * height - width) b
+  bottom-filled b some room m = record { within = omega arith; room = omega arith; made = m }
 
   -- and the spans before it
   pub filled-all : (b c : List ℕ) (end from : ℕ) → FilledFrom (lentHall width height bytes) base a end b → Made base from end (madeByte (lentHall width height bytes) (width * height) b (base + width * height)) b c → from ≡ 0 → Made base 0 (width * height) (madeByte (lentHall width height bytes) (width * height) a (base + width * height)) a c

@@ -96,10 +96,22 @@ orNone false level = level
 unfoldable pub nearLevel : List ℕ → ℕ → ℕ → ℕ → ℕ → ℕ → ℕ
 nearLevel layers width under mark floor m = orNone (odd (halves m mark) || odd (halves m floor)) (getD layers (nearEntry width under m) 0 % 128)
 
--- the byte of a cell that is not the goal
-unfoldable pub nearByte : List ℕ → ℕ → ℕ → ℕ → ℕ → ℕ
-nearByte layers width under mark floor =
-    orNone (eqb mark 255 || eqb floor 255) (afterStep false (leastTo moveCount (nearLevel layers width under mark floor))) + crossingStarts mark
+-- the entries that the first `moves` moves lead to lie within the layers
+pub record NearWithin (width under moves : ℕ) (layers : List ℕ) : Type 0 where
+  pub wide : 1 ≤ width
+  pub narrow : width ≤ 16
+  pub above : width ≤ under
+  pub some : moves ≤ moveCount
+  pub inside : (m : ℕ) → m < moves → nearEntry width under m < length layers
+
+-- the byte of a cell that is not the goal, of the entries that the first `moves` moves lead to
+unfoldable pub nearByte : List ℕ → ℕ → ℕ → ℕ → ℕ → ℕ → ℕ
+nearByte layers width under mark floor moves =
+    orNone (eqb mark 255 || eqb floor 255) (afterStep false (leastTo moves (nearLevel layers width under mark floor))) + crossingStarts mark
+
+-- how many moves, in rising order of cells, of a cell in the last row lead to no entry past the next layer
+unfoldable pub bottomMoves : ℕ → ℕ → ℕ
+bottomMoves size v = elim (ltb (v + 1) size) [ true ↦ 4 | false ↦ 3 ]
 
 -- the byte of the goal, made of what it were if the goal were elsewhere: where all of the rest is on it, nothing is added
 unfoldable pub restedByte : ℕ → ℕ

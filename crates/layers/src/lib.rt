@@ -6,16 +6,14 @@ use routes::Bar;
 ghost use Prim.Native.Nat.{_+_, _-_, _*_, _/_, _%_, min, _≤_, _<_};
 ghost use mathlib.Core.Bool.{false, _||_};
 ghost use mathlib.Core.Path.{_≡_};
-ghost use mathlib.Core.List.{map};
 ghost use lib.Dec.{eqb};
 ghost use lib.ListN.{length, getD, set};
-ghost use Rattle.hall.specs.Moves.{landing, moveCount};
 ghost use Rattle.records.specs.Columns.{Falls};
 ghost use Rattle.marks.specs.Marks.{boundBy, digit};
 ghost use Rattle.marks.specs.Post.{Layered};
 ghost use Rattle.layers.specs.Layers.{crossingStarts};
 ghost use Rattle.layers.specs.Post.{SoughtRoute};
-ghost use Rattle.layers.specs.Fill.{lentHall, levelIn, leastOf, leastTo, odd, unless, turnsBy, afterStep, orNone, leaves, edgeMark, floorMark, nearEntry, nearLevel, nearByte, restedByte, madeLevel, lastLevel, madeByte, lastByte, spanStart, Floored, Made, FilledFrom, MadeFrom, Levelled};
+ghost use Rattle.layers.specs.Fill.{lentHall, leastTo, odd, afterStep, orNone, leaves, edgeMark, floorMark, nearEntry, nearLevel, NearWithin, nearByte, bottomMoves, restedByte, lastLevel, madeByte, lastByte, spanStart, Floored, Made, FilledFrom, MadeFrom, Levelled};
 
 // The level of a cell from which there is no way to the goal.
 pub const NO_WAY: u8 = 127;
@@ -39,122 +37,10 @@ pub fn level_at(layers: &[u8], at: usize) -> u8
     layers[at] % 128
 }
 
-// The level that move m leads to in the layer that starts at `next`.
-fn level_by(
-    layers: &[u8],
-    width: usize,
-    height: usize,
-    next: usize,
-    row: usize,
-    col: usize,
-    m: usize,
-) -> u8
-    requires { ⌜ (width ≤ 16) × (height ≤ 16) × (row < height) × (col < width) × (m < 5) × (next + width * height ≤ length (now layers)) ⌝ }
-    ensures { λ r. ⌜ r ≡ leastOf (map (levelIn (now (layers .entry)) next) (landing width height row col m)) ⌝ }
-{
-    let l = hall::landing_at(width, height, row, col, m);
-    match l {
-        Landing::Off => NO_WAY,
-        Landing::Cell(w) => level_at(layers, next + w),
-    }
-}
-
-// The same where the digit of move m, the last of `rest`, is not set: no bar forbids the move.
-fn free_level(
-    layers: &[u8],
-    width: usize,
-    height: usize,
-    next: usize,
-    row: usize,
-    col: usize,
-    m: usize,
-    rest: u8,
-) -> u8
-    requires { ⌜ (width ≤ 16) × (height ≤ 16) × (row < height) × (col < width) × (m < 5) × (next + width * height ≤ length (now layers)) ⌝ }
-    ensures { λ r. ⌜ r ≡ leastOf (map (levelIn (now (layers .entry)) next) (unless (odd rest) (landing width height row col m))) ⌝ }
-{
-    if rest % 2 == 1 {
-        return NO_WAY;
-    }
-    level_by(layers, width, height, next, row, col, m)
-}
-
 fn lesser(a: u8, b: u8) -> u8
     ensures { λ r. ⌜ r ≡ min a b ⌝ }
 {
     if a <= b { a } else { b }
-}
-
-// The least level one step later.
-fn least_on(
-    layers: &[u8],
-    width: usize,
-    height: usize,
-    next: usize,
-    row: usize,
-    col: usize,
-    mark: u8,
-) -> u8
-    requires { ⌜ (width ≤ 16) × (height ≤ 16) × (row < height) × (col < width) × (next + width * height ≤ length (now layers)) ⌝ }
-    ensures { λ r. ⌜ r ≡ leastOf (map (levelIn (now (layers .entry)) next) (turnsBy width height row col mark)) ⌝ }
-{
-    let mut least = NO_WAY;
-    let mut rest = mark;
-    let mut m = 0;
-    while m < hall::MOVE_COUNT {
-        least = lesser(
-            least,
-            free_level(layers, width, height, next, row, col, m, rest),
-        );
-        rest = rest / 2;
-        m += 1;
-    }
-    least
-}
-
-// One step more in front: nothing is added only where all of the rest is on the goal, and this too.
-fn after_step(stays: bool, least: u8) -> u8
-    requires { ⌜ least ≤ 127 ⌝ }
-    ensures { λ r. ⌜ r ≡ afterStep stays least ⌝ }
-{
-    if least == NO_WAY {
-        return NO_WAY;
-    }
-    if least == 0 {
-        if stays {
-            return 0;
-        }
-        return 1;
-    }
-    least + 1
-}
-
-// The level of a cell before the horizon.
-fn cell_level(
-    hall: &[u8],
-    layers: &[u8],
-    width: usize,
-    height: usize,
-    goal: usize,
-    next: usize,
-    row: usize,
-    col: usize,
-    mark: u8,
-) -> u8
-    requires { ⌜ (width ≤ 16) × (height ≤ 16) × (row < height) × (col < width) × (next + width * height ≤ length (now layers)) ⌝ }
-    ensures { λ r. ⌜ r ≡ madeLevel (lentHall width height (now (hall .entry))) goal (levelIn (now (layers .entry)) next) (row * width + col) mark ⌝ }
-{
-    let v = row * width + col;
-    if mark == marks::BARRED {
-        return NO_WAY;
-    }
-    if hall::is_open(hall, width, height, v) {
-        return after_step(
-            v == goal,
-            least_on(layers, width, height, next, row, col, mark),
-        );
-    }
-    NO_WAY
 }
 
 fn crossing(mark: u8) -> u8
@@ -184,56 +70,6 @@ fn last_level(hall: &[u8], width: usize, height: usize, goal: usize, v: usize, m
         return 0;
     }
     NO_WAY
-}
-
-// ---- one layer
-
-fn fill_cell(
-    hall: &[u8],
-    width: usize,
-    height: usize,
-    goal: usize,
-    base: usize,
-    row: usize,
-    col: usize,
-    layers: &mut [u8],
-)
-    requires { ⌜ (width ≤ 16) × (height ≤ 16) × (row < height) × (col < width) × (base + width * height + width * height ≤ length (now layers)) ⌝ }
-    ensures { λ _. ⌜ now (layers .exit) ≡ set (now (layers .entry)) (base + (row * width + col)) (madeByte (lentHall width height (now (hall .entry))) goal (now (layers .entry)) (base + width * height) (row * width + col) (getD (now (layers .entry)) (base + (row * width + col)) 0)) ⌝ }
-{
-    let at = base + (row * width + col);
-    let mark = layers[at];
-    let level = cell_level(
-        hall,
-        layers,
-        width,
-        height,
-        goal,
-        base + width * height,
-        row,
-        col,
-        mark,
-    );
-    layers[at] = level + crossing(mark);
-}
-
-fn fill_row(
-    hall: &[u8],
-    width: usize,
-    height: usize,
-    goal: usize,
-    base: usize,
-    row: usize,
-    layers: &mut [u8],
-)
-    requires { ⌜ (width ≤ 16) × (height ≤ 16) × (row < height) × (base + width * height + width * height ≤ length (now layers)) ⌝ }
-    ensures { λ _. ⌜ Made base (row * width) (row * width + width) (madeByte (lentHall width height (now (hall .entry))) goal (now (layers .entry)) (base + width * height)) (now (layers .entry)) (now (layers .exit)) ⌝ }
-{
-    let mut col = width;
-    while 0 < col {
-        col -= 1;
-        fill_cell(hall, width, height, goal, base, row, col, layers);
-    }
 }
 
 // ---- a layer by spans of cells that are all filled alike
@@ -291,7 +127,7 @@ fn lay_floor(hall: &[u8], width: usize, height: usize, floor: &mut [u8])
 // The level that move m leads to from the entry `under`. It is read before the digits are asked, so that the compiler may do
 // many cells at once.
 fn near_level(layers: &[u8], width: usize, under: usize, m: usize, rest: u8, shut: u8) -> u8
-    requires { ⌜ (1 ≤ width) × (width ≤ 16) × (width ≤ under) × (under + width < length (now layers)) × (m < 5) ⌝ }
+    requires { ⌜ (1 ≤ width) × (width ≤ 16) × (width ≤ under) × (m < 5) × (nearEntry width under m < length (now layers)) ⌝ }
     ensures { λ r. ⌜ r ≡ orNone (odd rest || odd shut) (getD (now (layers .entry)) (nearEntry width under m) 0 % 128) ⌝ }
 {
     let level = layers[under + width * hall::down(m) + hall::right(m) - (width + 1)] % 128;
@@ -304,15 +140,16 @@ fn near_level(layers: &[u8], width: usize, under: usize, m: usize, rest: u8, shu
     level
 }
 
-fn least_near(layers: &[u8], width: usize, under: usize, mark: u8, floor: u8) -> u8
-    requires { ⌜ (1 ≤ width) × (width ≤ 16) × (width ≤ under) × (under + width < length (now layers)) ⌝ }
-    ensures { λ r. ⌜ r ≡ leastTo moveCount (nearLevel (now (layers .entry)) width under mark floor) ⌝ }
+// The least level that the first `moves` moves lead to.
+fn least_near(layers: &[u8], width: usize, under: usize, mark: u8, floor: u8, moves: usize) -> u8
+    requires { ⌜ NearWithin width under moves (now layers) ⌝ }
+    ensures { λ r. ⌜ r ≡ leastTo moves (nearLevel (now (layers .entry)) width under mark floor) ⌝ }
 {
     let mut least = NO_WAY;
     let mut rest = mark;
     let mut shut = floor;
     let mut m = 0;
-    while m < hall::MOVE_COUNT {
+    while m < moves {
         least = lesser(least, near_level(layers, width, under, m, rest, shut));
         rest = rest / 2;
         shut = shut / 2;
@@ -338,19 +175,19 @@ fn way_on(mark: u8, floor: u8, least: u8) -> u8
     least + 1
 }
 
-fn near_byte(layers: &[u8], width: usize, under: usize, mark: u8, floor: u8) -> u8
-    requires { ⌜ (1 ≤ width) × (width ≤ 16) × (width ≤ under) × (under + width < length (now layers)) ⌝ }
-    ensures { λ r. ⌜ r ≡ nearByte (now (layers .entry)) width under mark floor ⌝ }
+fn near_byte(layers: &[u8], width: usize, under: usize, mark: u8, floor: u8, moves: usize) -> u8
+    requires { ⌜ NearWithin width under moves (now layers) ⌝ }
+    ensures { λ r. ⌜ r ≡ nearByte (now (layers .entry)) width under mark floor moves ⌝ }
 {
-    let least = least_near(layers, width, under, mark, floor);
+    let least = least_near(layers, width, under, mark, floor, moves);
     way_on(mark, floor, least) + crossing(mark)
 }
 
-fn fill_near(width: usize, under: usize, at: usize, floor: u8, layers: &mut [u8])
-    requires { ⌜ (1 ≤ width) × (width ≤ 16) × (width ≤ under) × (under + width < length (now layers)) × (at < length (now layers)) ⌝ }
-    ensures { λ _. ⌜ now (layers .exit) ≡ set (now (layers .entry)) at (nearByte (now (layers .entry)) width under (getD (now (layers .entry)) at 0) floor) ⌝ }
+fn fill_near(width: usize, under: usize, at: usize, floor: u8, moves: usize, layers: &mut [u8])
+    requires { ⌜ NearWithin width under moves (now layers) × (at < length (now layers)) ⌝ }
+    ensures { λ _. ⌜ now (layers .exit) ≡ set (now (layers .entry)) at (nearByte (now (layers .entry)) width under (getD (now (layers .entry)) at 0) floor moves) ⌝ }
 {
-    let byte = near_byte(layers, width, under, layers[at], floor);
+    let byte = near_byte(layers, width, under, layers[at], floor, moves);
     layers[at] = byte;
 }
 
@@ -372,22 +209,75 @@ fn fill_span(
     let size = width * height;
     let mut v = from;
     while v < to {
-        fill_near(width, base + size + v, base + v, floor[v], layers);
+        fill_near(
+            width,
+            base + size + v,
+            base + v,
+            floor[v],
+            hall::MOVE_COUNT,
+            layers,
+        );
         v += 1;
     }
 }
 
-// The last row, where no entry lies below its next layer: it is filled by cells, which read none there. The cells from here on are
-// filled then.
-fn fill_bottom(hall: &[u8], width: usize, height: usize, base: usize, layers: &mut [u8]) -> usize
+// The moves are in rising order of cells: so many come before the one that leads down, and before the one to the right.
+const BEFORE_DOWN: usize = 4;
+
+const BEFORE_RIGHT: usize = 3;
+
+// How many moves of a cell in the last row lead to no entry past the next layer: not down, and from the last cell not to the right.
+fn bottom_moves(size: usize, v: usize) -> usize
+    requires { ⌜ v < size ⌝ }
+    ensures { λ r. ⌜ r ≡ bottomMoves size v ⌝ }
+{
+    if v + 1 < size {
+        return BEFORE_DOWN;
+    }
+    BEFORE_RIGHT
+}
+
+// The last row, with the goal nowhere, where no entry past the next layer is read. A move that would lead there leaves the grid.
+fn fill_bottom(
+    hall: &[u8],
+    floor: &[u8],
+    width: usize,
+    height: usize,
+    base: usize,
+    layers: &mut [u8],
+)
     requires { ⌜ (1 ≤ width) × (width ≤ 16) × (1 ≤ height) × (height ≤ 16) × (base + width * height + width * height ≤ length (now layers)) ⌝ }
+    requires { ⌜ Floored (lentHall width height (now hall)) (now floor) ⌝ }
+    ensures { λ _. ⌜ Made base (width * height - width) (width * height) (madeByte (lentHall width height (now (hall .entry))) (width * height) (now (layers .entry)) (base + width * height)) (now (layers .entry)) (now (layers .exit)) ⌝ }
+{
+    let size = width * height;
+    let mut v = size - width;
+    while v < size {
+        let moves = bottom_moves(size, v);
+        fill_near(width, base + size + v, base + v, floor[v], moves, layers);
+        v += 1;
+    }
+}
+
+// Where the lent layers end with the next layer, no entry lies below its last row, and this row is filled apart. The cells from here on
+// are filled then.
+fn fill_end(
+    hall: &[u8],
+    floor: &[u8],
+    width: usize,
+    height: usize,
+    base: usize,
+    layers: &mut [u8],
+) -> usize
+    requires { ⌜ (1 ≤ width) × (width ≤ 16) × (1 ≤ height) × (height ≤ 16) × (base + width * height + width * height ≤ length (now layers)) ⌝ }
+    requires { ⌜ Floored (lentHall width height (now hall)) (now floor) ⌝ }
     ensures { λ r. ⌜ FilledFrom (lentHall width height (now (hall .entry))) base (now (layers .entry)) r (now (layers .exit)) ⌝ }
 {
     let size = width * height;
     if base + size + size + width <= layers.len() {
         return size;
     }
-    fill_row(hall, width, height, size, base, height - 1, layers);
+    fill_bottom(hall, floor, width, height, base, layers);
     size - width
 }
 
@@ -412,7 +302,7 @@ fn fill_rows(hall: &[u8], floor: &[u8], width: usize, height: usize, base: usize
     requires { ⌜ Floored (lentHall width height (now hall)) (now floor) ⌝ }
     ensures { λ _. ⌜ Made base 0 (width * height) (madeByte (lentHall width height (now (hall .entry))) (width * height) (now (layers .entry)) (base + width * height)) (now (layers .entry)) (now (layers .exit)) ⌝ }
 {
-    let mut end = fill_bottom(hall, width, height, base, layers);
+    let mut end = fill_end(hall, floor, width, height, base, layers);
     while 0 < end {
         let from = span_start(width, width * height, end);
         fill_span(hall, floor, width, height, base, from, end, layers);

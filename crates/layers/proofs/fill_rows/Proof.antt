@@ -16,11 +16,11 @@ Inv-loop hall floor width height base layers₀ end₀ layers end = (end ≤ end
 abbrev μ-loop : tie.MeasureT-loop
 μ-loop hall floor width height base layers₀ end₀ layers end = end
 
-fill-bottom-requires : tie.Need-fill-bottom-requires Inv-loop μ-loop
-fill-bottom-requires c κs = search needs
+fill-end-requires : tie.Need-fill-end-requires Inv-loop μ-loop
+fill-end-requires c κs = search needs
 
 loop-holds : tie.Need-loop-holds Inv-loop μ-loop
-loop-holds c = (omega arith, made-none (c .before .before .before .before .before .before .before .args .base) (c .before .before .fill-bottom .result) (c .before .before .fill-bottom .result) (madeByte (lentHall (c .before .before .before .before .before .before .before .args .width) (c .before .before .before .before .before .before .before .args .height) (c .before .before .before .before .before .before .before .args .hall .now)) (c .before .before .before .before .before .before .before .args .width * c .before .before .before .before .before .before .before .args .height) (c .before .before .fill-bottom .last .1 .1 .1 .1 .0) (c .before .before .before .before .before .before .before .args .base + c .before .before .before .before .before .before .before .args .width * c .before .before .before .before .before .before .before .args .height)) (c .before .before .fill-bottom .last .1 .1 .1 .1 .0) (omega arith))
+loop-holds c = (omega arith, made-none (c .before .before .before .before .before .before .before .args .base) (c .before .before .fill-end .result) (c .before .before .fill-end .result) (madeByte (lentHall (c .before .before .before .before .before .before .before .args .width) (c .before .before .before .before .before .before .before .args .height) (c .before .before .before .before .before .before .before .args .hall .now)) (c .before .before .before .before .before .before .before .args .width * c .before .before .before .before .before .before .before .args .height) (c .before .before .fill-end .last .1 .1 .1 .1 .1 .0) (c .before .before .before .before .before .before .before .args .base + c .before .before .before .before .before .before .before .args .width * c .before .before .before .before .before .before .before .args .height)) (c .before .before .fill-end .last .1 .1 .1 .1 .1 .0) (omega arith))
 
 mul-span-start : tie.Need-mul-span-start Inv-loop μ-loop
 mul-span-start c = let small = area-small {w = c .before .before .before .before .before .before .before .before .before .args .width} {h = c .before .before .before .before .before .before .before .before .before .args .height} (omega arith) (omega arith) in omega arith
@@ -29,19 +29,19 @@ span-start-requires : tie.Need-span-start-requires Inv-loop μ-loop
 span-start-requires c κs = rows-some (c .before .before .before .before .before .before .before .before .before .args .width) (c .before .before .before .before .before .before .before .before .before .args .height) (omega arith)
 
 fill-span-requires : tie.Need-fill-span-requires Inv-loop μ-loop
-fill-span-requires c κs = let some = rows-some (c .before .before .before .before .before .before .before .before .before .before .before .args .width) (c .before .before .before .before .before .before .before .before .before .before .before .args .height) (omega arith) in let less = start-before (c .before .before .before .before .before .before .before .before .before .before .before .args .width) (c .before .before .before .before .before .before .before .before .before .before .before .args .width * c .before .before .before .before .before .before .before .before .before .before .before .args .height) (c .before .before .before .loop .end) (omega arith) some (c .before .before .loop-test .taken) in let bottom = c .before .before .before .before .before .before .fill-bottom .ensures in (omega (arith, c .before .span-start .ensures, bottom .within, bottom .room, bottom .made .long, c .before .before .before .loop .inv .1 .long), c .before .before .before .before .before .before .before .before .before .before .before .pre .1)
+fill-span-requires c κs = let some = rows-some (c .before .before .before .before .before .before .before .before .before .before .before .args .width) (c .before .before .before .before .before .before .before .before .before .before .before .args .height) (omega arith) in let less = start-before (c .before .before .before .before .before .before .before .before .before .before .before .args .width) (c .before .before .before .before .before .before .before .before .before .before .before .args .width * c .before .before .before .before .before .before .before .before .before .before .before .args .height) (c .before .before .before .loop .end) (omega arith) some (c .before .before .loop-test .taken) in let bottom = c .before .before .before .before .before .before .fill-end .ensures in (omega (arith, c .before .span-start .ensures, bottom .within, bottom .room, bottom .made .long, c .before .before .before .loop .inv .1 .long), c .before .before .before .before .before .before .before .before .before .before .before .pre .1)
 
 loop-less : tie.Need-loop-less Inv-loop μ-loop
 loop-less c = let some = rows-some (c .before .before .before .before .before .before .before .before .before .before .before .before .before .before .args .width) (c .before .before .before .before .before .before .before .before .before .before .before .before .before .before .args .height) (omega arith) in let less = start-before (c .before .before .before .before .before .before .before .before .before .before .before .before .before .before .args .width) (c .before .before .before .before .before .before .before .before .before .before .before .before .before .before .args .width * c .before .before .before .before .before .before .before .before .before .before .before .before .before .before .args .height) (c .before .before .before .before .before .before .loop .end) (omega arith) some (c .before .before .before .before .before .loop-test .taken) in omega (arith, c .before .before .before .before .span-start .ensures)
 
 loop-again : tie.Need-loop-again Inv-loop μ-loop
-loop-again c = let some = rows-some (c .before .before .before .before .before .before .before .before .before .before .before .before .before .before .args .width) (c .before .before .before .before .before .before .before .before .before .before .before .before .before .before .args .height) (omega arith) in let less = start-before (c .before .before .before .before .before .before .before .before .before .before .before .before .before .before .args .width) (c .before .before .before .before .before .before .before .before .before .before .before .before .before .before .args .width * c .before .before .before .before .before .before .before .before .before .before .before .before .before .before .args .height) (c .before .before .before .before .before .before .loop .end) (omega arith) some (c .before .before .before .before .before .loop-test .taken) in let bottom = c .before .before .before .before .before .before .before .before .before .fill-bottom .ensures in (omega (arith, c .before .before .before .before .span-start .ensures), rows-more (lentHall (c .before .before .before .before .before .before .before .before .before .before .before .before .before .before .args .width) (c .before .before .before .before .before .before .before .before .before .before .before .before .before .before .args .height) (c .before .before .before .before .before .before .before .before .before .before .before .before .before .before .args .hall .now)) (c .before .before .before .before .before .before .before .before .before .before .before .before .before .before .args .width * c .before .before .before .before .before .before .before .before .before .before .before .before .before .before .args .height) (c .before .before .before .before .before .before .before .before .before .before .before .before .before .before .args .base) (c .before .before .before .before .span-start .result) (c .before .before .before .before .before .before .loop .end) (c .before .before .before .before .before .before .before .before .before .fill-bottom .result) (c .before .before .before .before .before .before .before .before .before .fill-bottom .last .1 .1 .1 .1 .0) (c .before .before .before .before .before .before .loop .layers) (c .before .before .fill-span .last .1 .1 .1 .1 .1 .1 .1 .0) (bottom .within) (c .before .before .before .before .before .before .loop .inv .1) (c .before .before .fill-span .ensures) (omega (arith, c .before .before .before .before .span-start .ensures)) (c .before .before .before .before .before .before .loop .inv .0))
+loop-again c = let some = rows-some (c .before .before .before .before .before .before .before .before .before .before .before .before .before .before .args .width) (c .before .before .before .before .before .before .before .before .before .before .before .before .before .before .args .height) (omega arith) in let less = start-before (c .before .before .before .before .before .before .before .before .before .before .before .before .before .before .args .width) (c .before .before .before .before .before .before .before .before .before .before .before .before .before .before .args .width * c .before .before .before .before .before .before .before .before .before .before .before .before .before .before .args .height) (c .before .before .before .before .before .before .loop .end) (omega arith) some (c .before .before .before .before .before .loop-test .taken) in let bottom = c .before .before .before .before .before .before .before .before .before .fill-end .ensures in (omega (arith, c .before .before .before .before .span-start .ensures), rows-more (lentHall (c .before .before .before .before .before .before .before .before .before .before .before .before .before .before .args .width) (c .before .before .before .before .before .before .before .before .before .before .before .before .before .before .args .height) (c .before .before .before .before .before .before .before .before .before .before .before .before .before .before .args .hall .now)) (c .before .before .before .before .before .before .before .before .before .before .before .before .before .before .args .width * c .before .before .before .before .before .before .before .before .before .before .before .before .before .before .args .height) (c .before .before .before .before .before .before .before .before .before .before .before .before .before .before .args .base) (c .before .before .before .before .span-start .result) (c .before .before .before .before .before .before .loop .end) (c .before .before .before .before .before .before .before .before .before .fill-end .result) (c .before .before .before .before .before .before .before .before .before .fill-end .last .1 .1 .1 .1 .1 .0) (c .before .before .before .before .before .before .loop .layers) (c .before .before .fill-span .last .1 .1 .1 .1 .1 .1 .1 .0) (bottom .within) (c .before .before .before .before .before .before .loop .inv .1) (c .before .before .fill-span .ensures) (omega (arith, c .before .before .before .before .span-start .ensures)) (c .before .before .before .before .before .before .loop .inv .0))
 
 same-length : tie.Need-same-length Inv-loop μ-loop
-same-length c = c .before .loop .inv .1 .long ∙ c .before .before .before .before .fill-bottom .ensures .made .long
+same-length c = c .before .loop .inv .1 .long ∙ c .before .before .before .before .fill-end .ensures .made .long
 
 returns : tie.Need-returns Inv-loop μ-loop
-returns c = filled-all (c .before .before .before .before .before .before .before .before .before .args .width) (c .before .before .before .before .before .before .before .before .before .args .height) (c .before .before .before .before .before .before .before .before .before .args .hall .now) (c .before .before .before .before .before .before .before .before .before .args .base) (c .before .before .before .before .before .before .before .before .before .args .layers .now) (c .before .before .before .before .fill-bottom .last .1 .1 .1 .1 .0) (c .before .loop .layers) (c .before .before .before .before .fill-bottom .result) (c .before .loop .end) (c .before .before .before .before .fill-bottom .ensures) (c .before .loop .inv .1) (omega arith)
+returns c = filled-all (c .before .before .before .before .before .before .before .before .before .args .width) (c .before .before .before .before .before .before .before .before .before .args .height) (c .before .before .before .before .before .before .before .before .before .args .hall .now) (c .before .before .before .before .before .before .before .before .before .args .base) (c .before .before .before .before .before .before .before .before .before .args .layers .now) (c .before .before .before .before .fill-end .last .1 .1 .1 .1 .1 .0) (c .before .loop .layers) (c .before .before .before .before .fill-end .result) (c .before .loop .end) (c .before .before .before .before .fill-end .ensures) (c .before .loop .inv .1) (omega arith)
 
 pub fill-rows-spec : {M : Type 1} → statement M
 fill-rows-spec =
@@ -49,7 +49,7 @@ fill-rows-spec =
     (tie.spec
     Inv-loop
     μ-loop
-    fill-bottom-requires
+    fill-end-requires
     loop-holds
     mul-span-start
     span-start-requires

@@ -3,7 +3,10 @@ use native.Mathlib.Omega.{arith}
 use Prim.Native.Nat.{_+_, _-_, _*_, _≤_}
 use Rattle.layers.specs.Fill.{lentHall, madeByte, Made}
 use Rattle.hall.proofs.HallCode.{area-small}
+use Rattle.hall.specs.Moves.{moveCount}
 use Rattle.layers.proofs.MadeLaws.{made-none}
+use Rattle.layers.proofs.NearLaws.{near-all}
+use Rattle.layers.proofs.NearMade.{none-past}
 use Rattle.layers.proofs.SpanLaws.{span-more, span-all}
 use Rattle.layers.proofs.fill_span.Statement.{statement}
 use Rattle.layers.proofs.fill_span.Tie as tie
@@ -33,7 +36,7 @@ shared-slice-read-fill-near : tie.Need-shared-slice-read-fill-near Inv-loop μ-l
 shared-slice-read-fill-near c = omega (arith, c .before .before .before .before .before .before .pre .1 .room)
 
 fill-near-requires : tie.Need-fill-near-requires Inv-loop μ-loop
-fill-near-requires c κs = omega (arith, c .before .before .before .loop .inv .1 .long)
+fill-near-requires c κs = (near-all (c .before .before .before .before .before .before .before .args .width) (c .before .before .before .before .before .before .before .args .base + c .before .before .before .before .before .before .before .args .width * c .before .before .before .before .before .before .before .args .height + c .before .before .before .loop .v) (c .before .before .before .loop .layers) (omega arith) (omega arith) (omega arith) (omega (arith, c .before .before .before .loop .inv .1 .long)), omega (arith, c .before .before .before .loop .inv .1 .long))
 
 add-v : tie.Need-add-v Inv-loop μ-loop
 add-v c = let small = area-small {w = c .before .before .before .before .before .before .before .before .before .before .args .width} {h = c .before .before .before .before .before .before .before .before .before .before .args .height} (omega arith) (omega arith) in omega arith
@@ -42,7 +45,7 @@ loop-less : tie.Need-loop-less Inv-loop μ-loop
 loop-less c = omega arith
 
 loop-again : tie.Need-loop-again Inv-loop μ-loop
-loop-again c = ((omega arith, omega arith), span-more (c .before .before .before .before .before .before .before .before .before .before .args .width) (c .before .before .before .before .before .before .before .before .before .before .args .height) (c .before .before .before .before .before .before .before .before .before .before .args .hall .now) (c .before .before .before .before .before .before .before .before .before .before .args .floor .now) (c .before .before .before .before .before .before .before .before .before .before .args .base) (c .before .before .before .before .before .before .before .before .before .before .args .from) (c .before .before .before .before .before .before .loop .v) (c .before .before .before .before .before .before .before .before .before .before .args .layers .now) (c .before .before .before .before .before .before .loop .layers) (c .before .before .fill-near .last .1 .1 .1 .1 .0) (c .before .before .before .before .before .before .loop .inv .0 .0) (omega arith) (omega arith) (c .before .before .before .before .before .before .before .before .before .before .pre .1) (c .before .before .before .before .before .before .loop .inv .1) (c .before .before .fill-near .ensures))
+loop-again c = ((omega arith, omega arith), span-more (c .before .before .before .before .before .before .before .before .before .before .args .width) (c .before .before .before .before .before .before .before .before .before .before .args .height) (c .before .before .before .before .before .before .before .before .before .before .args .hall .now) (c .before .before .before .before .before .before .before .before .before .before .args .floor .now) (c .before .before .before .before .before .before .before .before .before .before .args .base) (c .before .before .before .before .before .before .before .before .before .before .args .from) (c .before .before .before .before .before .before .loop .v) moveCount (c .before .before .before .before .before .before .before .before .before .before .args .layers .now) (c .before .before .before .before .before .before .loop .layers) (c .before .before .fill-near .last .1 .1 .1 .1 .1 .0) (c .before .before .before .before .before .before .loop .inv .0 .0) (omega arith) (omega arith) (c .before .before .before .before .before .before .before .before .before .before .pre .1) (none-past (c .before .before .before .before .before .before .before .before .before .before .args .width) (c .before .before .before .before .before .before .before .before .before .before .args .height) (c .before .before .before .before .before .before .before .before .before .before .args .base + c .before .before .before .before .before .before .before .before .before .before .args .width * c .before .before .before .before .before .before .before .before .before .before .args .height) (c .before .before .before .before .before .before .loop .v)) (c .before .before .before .before .before .before .loop .inv .1) (c .before .before .fill-near .ensures))
 
 same-length : tie.Need-same-length Inv-loop μ-loop
 same-length c = c .before .loop .inv .1 .long

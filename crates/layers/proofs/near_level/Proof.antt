@@ -13,16 +13,16 @@ down-requires : tie.Need-down-requires
 down-requires c κs = search needs
 
 mul-level : tie.Need-mul-level
-mul-level c = let b = near-facts (c .before .before .args .width) (c .before .before .args .under) (c .before .before .args .m) (c .down .result) (getD colChanges (c .before .before .args .m) 1) (omega arith) (omega arith) (omega arith) (c .down .ensures) refl in omega (arith, b .down)
+mul-level c = let b = near-facts (c .before .before .args .width) (c .before .before .args .under) (c .before .before .args .m) (c .down .result) (getD colChanges (c .before .before .args .m) 1) (omega arith) (omega arith) (omega arith) (c .down .ensures) refl in omega (arith, b .down, b .entry)
 
 add-level : tie.Need-add-level
-add-level c = let b = near-facts (c .before .before .args .width) (c .before .before .args .under) (c .before .before .args .m) (c .down .result) (getD colChanges (c .before .before .args .m) 1) (omega arith) (omega arith) (omega arith) (c .down .ensures) refl in omega (arith, b .down)
+add-level c = let b = near-facts (c .before .before .args .width) (c .before .before .args .under) (c .before .before .args .m) (c .down .result) (getD colChanges (c .before .before .args .m) 1) (omega arith) (omega arith) (omega arith) (c .down .ensures) refl in omega (arith, b .down, b .entry)
 
 right-requires : tie.Need-right-requires
 right-requires c κs = search needs
 
 add-level-2 : tie.Need-add-level-2
-add-level-2 c = let b = near-facts (c .before .before .before .args .width) (c .before .before .before .args .under) (c .before .before .before .args .m) (c .before .down .result) (c .right .result) (omega arith) (omega arith) (omega arith) (c .before .down .ensures) (c .right .ensures) in omega (arith, b .down, b .right)
+add-level-2 c = let b = near-facts (c .before .before .before .args .width) (c .before .before .before .args .under) (c .before .before .before .args .m) (c .before .down .result) (c .right .result) (omega arith) (omega arith) (omega arith) (c .before .down .ensures) (c .right .ensures) in omega (arith, b .down, b .right, b .entry)
 
 add-level-3 : tie.Need-add-level-3
 add-level-3 c = search needs
@@ -31,7 +31,7 @@ sub-level : tie.Need-sub-level
 sub-level c = let b = near-facts (c .before .before .before .args .width) (c .before .before .before .args .under) (c .before .before .before .args .m) (c .before .down .result) (c .right .result) (omega arith) (omega arith) (omega arith) (c .before .down .ensures) (c .right .ensures) in omega (arith, b .low)
 
 shared-slice-read-level : tie.Need-shared-slice-read-level
-shared-slice-read-level c = let b = near-facts (c .before .before .before .before .args .width) (c .before .before .before .before .args .under) (c .before .before .before .before .args .m) (c .before .before .down .result) (c .before .right .result) (omega arith) (omega arith) (omega arith) (c .before .before .down .ensures) (c .before .right .ensures) in omega (arith, b .high)
+shared-slice-read-level c = let b = near-facts (c .before .before .before .before .args .width) (c .before .before .before .before .args .under) (c .before .before .before .before .args .m) (c .before .before .down .result) (c .before .right .result) (omega arith) (omega arith) (omega arith) (c .before .before .down .ensures) (c .before .right .ensures) in omega (arith, b .entry)
 
 returns : tie.Need-returns
 returns c = digit-bars (c .before .before .before .before .before .args .rest) (c .before .before .before .before .before .args .shut) (getD (c .before .before .before .before .before .args .layers .now) (nearEntry (c .before .before .before .before .before .args .width) (c .before .before .before .before .before .args .under) (c .before .before .before .before .before .args .m)) 0 % 128) (c .if1 .taken)
