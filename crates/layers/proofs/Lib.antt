@@ -1,6 +1,5 @@
 pub mod BottomLaws
 pub mod CellLaws
-pub mod CellPlaces
 pub mod Filled
 pub mod FilledLevels
 pub mod FloorLaws

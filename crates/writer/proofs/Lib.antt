@@ -1,3 +1,4 @@
+pub mod CellPlaces
 pub mod OnwardLaws
 pub mod RouteLaws
 pub mod StayLaws

@@ -3,7 +3,7 @@
 use borrow.Author.Needs.{needs}
 use native.Mathlib.Omega.{arith}
 use Rattle.hall.specs.Moves.{landing}
-use Rattle.layers.proofs.CellPlaces.{landed-inside}
+use Rattle.writer.proofs.CellPlaces.{landed-inside}
 use Rattle.writer.proofs.StepLaws.{goes-barred, goes-off, goes-there, goes-elsewhere}
 use Rattle.writer.proofs.goes_by.Statement.{statement}
 use Rattle.writer.proofs.goes_by.Tie as tie

@@ -4,7 +4,7 @@ use native.Mathlib.Omega.{arith}
 use Prim.Native.Nat.{_+_, _-_, _*_, _/_, _%_}
 use mathlib.Core.Path.{ap, _∙_}
 use Rattle.layers.specs.Fill.{turnsBy}
-use Rattle.layers.proofs.CellPlaces.{place-inside}
+use Rattle.writer.proofs.CellPlaces.{place-inside}
 use Rattle.writer.specs.Write.{goneTo}
 use Rattle.writer.proofs.StepLaws.{Passed, moves-begin, move-found, move-passed, moves-end}
 use Rattle.writer.proofs.step_on.Statement.{statement}

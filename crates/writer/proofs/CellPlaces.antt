@@ -13,14 +13,14 @@ use Rattle.hall.specs.Landing.{landed}
 use Rattle.hall.specs.declared.Landing.{Landing}
 use Rattle.hall.specs.declared.Landing.the-variants.{Cell}
 use Rattle.hall.proofs.Reach.{reach-inside}
 use Rattle.layers.specs.Fill.{lentHall}
 
 pub place-inside : (width height v : ℕ) → 1 ≤ width → v < width * height → (v / width < height) × (v % width < width)
 place-inside width height v w h = (div-lt-iff-lt-mul {k = width} {x = v} {y = height} w .1 (rw (mul-comm width height) at h), mod-lt v w)
 
 -- ---- the moves
 
-pub landing-inside : (width height row col m w : ℕ) → col < width → m < moveCount → List·Memᴰ w (landing width height row col m) → w < width * height
+landing-inside : (width height row col m w : ℕ) → col < width → m < moveCount → List·Memᴰ w (landing width height row col m) → w < width * height
 unfolding reach reachFrom
 landing-inside width height row col m w c l n =
     reach-inside (lentHall width height []) (row * width + col) w
