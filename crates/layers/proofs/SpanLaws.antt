@@ -1,14 +1,14 @@
--- A layer filled span by span, from the last row to the first, and the goal mended at the end. Assumes nothing.
+-- A layer filled span by span, the first row last, and the goal mended at the end. Assumes nothing.
 use Prim.Native.Nat.{ℕ, zero, suc, _+_, _-_, _*_, _/_, _%_, _≤_, _<_}
 use native.Mathlib.Nat.{mul-comm}
 use native.Mathlib.Omega.{arith}
-use native.Mathlib.Decide.{ℕ-discrete, decLe, decLt}
+use native.Mathlib.Decide.{ℕ-discrete, decLt}
 use mathlib.Core.Path.{_≡_, refl, sym, ap, subst, _∙_}
 use mathlib.Core.Bool.{Bool, true, false}
 use mathlib.Core.List.{List, map}
 use lib.Dec.{eqb}
 use lib.ListN.{length, getD, set}
-use borrow.Author.Tests.{eq-eqb, ne-eqb, lt-ltb, le-ltb, le-leb, lt-leb}
+use borrow.Author.Tests.{eq-eqb, ne-eqb, lt-ltb, le-ltb}
 use Rattle.lists.proofs.Parts.{part-within}
 use Rattle.hall.specs.Hall.{Hall, size}
 use Rattle.layers.specs.Layers.{crossingStarts}
@@ -40,25 +40,20 @@ span-all base from to v byte a b low high m = let same : v ≡ to = omega arith 
 pub rows-some : (width height : ℕ) → 1 ≤ height → width ≤ width * height
 rows-some width height h = rw (mul-comm width height) (omega (arith, part-within 0 height width h))
 
-pub start-last : (width size end : ℕ) → size ≤ end → size - width ≡ spanStart width size end
+pub start-second : (width end : ℕ) → width < end → width ≡ spanStart width end
 unfolding spanStart
-start-last width size end h = rw (spanStart, le-leb size end h)
+start-second width end h = rw (spanStart, lt-ltb width end h)
 
-pub start-between : (width size end : ℕ) → (size ≤ end → ⊥) → width < end → width ≡ spanStart width size end
+pub start-first : (width end : ℕ) → end ≤ width → 0 ≡ spanStart width end
 unfolding spanStart
-start-between width size end n h = rw (spanStart, lt-leb size end (omega (arith, n)), lt-ltb width end h)
+start-first width end h = rw (spanStart, le-ltb width end h)
 
-pub start-first : (width size end : ℕ) → (size ≤ end → ⊥) → (width < end → ⊥) → 0 ≡ spanStart width size end
-unfolding spanStart
-start-first width size end n k = rw (spanStart, lt-leb size end (omega (arith, n)), le-ltb width end (omega (arith, k)))
-
-pub start-before : (width size end : ℕ) → 1 ≤ width → width ≤ size → 0 < end → spanStart width size end < end
-start-before width size end wide some h = go (decLe size end) (decLt width end)
+pub start-before : (width end : ℕ) → 0 < end → spanStart width end < end
+start-before width end h = go (decLt width end)
   where
-    go : Dec (size ≤ end) → Dec (width < end) → spanStart width size end < end
-    go (yes l) k = omega (arith, start-last width size end l)
-    go (no n) (yes l) = omega (arith, start-between width size end n l)
-    go (no n) (no k) = omega (arith, start-first width size end n k)
+    go : Dec (width < end) → spanStart width end < end
+    go (yes l) = omega (arith, start-second width end l)
+    go (no n) = omega (arith, start-first width end (omega (arith, n)))
 
 module _ (width height : ℕ) (bytes : List ℕ) (base : ℕ) (a : List ℕ) where
   -- the last row

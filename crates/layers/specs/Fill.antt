@@ -4,7 +4,7 @@ use Prim.Native.Nat.{ℕ, zero, suc, _+_, _-_, _*_, _/_, _%_, min, _≤_, _<_}
 use mathlib.Core.Path.{_≡_}
 use mathlib.Core.Bool.{Bool, true, false, not, _&&_, _||_}
 use mathlib.Core.List.{List, [], _∷_, map}
-use lib.Dec.{eqb, leb, ltb}
+use lib.Dec.{eqb, ltb}
 use lib.ListN.{length, getD}
 use Rattle.lists.specs.Lists.{range, each, sumTo}
 use Rattle.lent.specs.Lent.{SameFrom}
@@ -138,8 +138,8 @@ pub record FilledFrom (hall : Hall) (base : ℕ) (before : List ℕ) (end : ℕ)
   pub room : base + size hall + end + hall .width ≤ length before
   pub made : Made base end (size hall) (madeByte hall (size hall) before (base + size hall)) before after
 
-unfoldable pub spanStart : ℕ → ℕ → ℕ → ℕ
-spanStart width size end = elim (leb size end) [ true ↦ size - width | false ↦ elim (ltb width end) [ true ↦ width | false ↦ 0 ] ]
+unfoldable pub spanStart : ℕ → ℕ → ℕ
+spanStart width end = elim (ltb width end) [ true ↦ width | false ↦ 0 ]
 
 -- the layers from step t to the horizon h, and no others, are made of their marks, each of the next
 pub record MadeFrom (hall : Hall) (goal h t : ℕ) (marks layers : List ℕ) : Type 0 where

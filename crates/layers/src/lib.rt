@@ -281,15 +281,11 @@ fn fill_end(
     size - width
 }
 
-// Where the span of cells that ends here starts: the last row, those between, the first. What is read for the rows between lies apart
-// from what is written, so that the compiler may do many cells at once.
-fn span_start(width: usize, size: usize, end: usize) -> usize
-    requires { ⌜ width ≤ size ⌝ }
-    ensures { λ r. ⌜ r ≡ spanStart width size end ⌝ }
+// Where the span of cells that ends here starts: all rows but the first, then the first. What is read for a span lies apart from what is
+// written, so that the compiler may do many cells at once.
+fn span_start(width: usize, end: usize) -> usize
+    ensures { λ r. ⌜ r ≡ spanStart width end ⌝ }
 {
-    if size <= end {
-        return size - width;
-    }
     if width < end {
         return width;
     }
@@ -304,7 +300,7 @@ fn fill_rows(hall: &[u8], floor: &[u8], width: usize, height: usize, base: usize
 {
     let mut end = fill_end(hall, floor, width, height, base, layers);
     while 0 < end {
-        let from = span_start(width, width * height, end);
+        let from = span_start(width, end);
         fill_span(hall, floor, width, height, base, from, end, layers);
         end = from;
     }

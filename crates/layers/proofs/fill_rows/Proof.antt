@@ -4,7 +4,6 @@ use borrow.Author.Needs.{needs}
 use Prim.Native.Nat.{_+_, _*_, _≤_}
 use mathlib.Core.Path.{_∙_}
 use Rattle.layers.specs.Fill.{lentHall, madeByte, Made}
-use Rattle.hall.proofs.HallCode.{area-small}
 use Rattle.layers.proofs.MadeLaws.{made-none, rows-more}
 use Rattle.layers.proofs.SpanLaws.{rows-some, start-before, filled-all}
 use Rattle.layers.proofs.fill_rows.Statement.{statement}
@@ -22,20 +21,17 @@ fill-end-requires c κs = search needs
 loop-holds : tie.Need-loop-holds Inv-loop μ-loop
 loop-holds c = (omega arith, made-none (c .before .before .before .before .before .before .before .args .base) (c .before .before .fill-end .result) (c .before .before .fill-end .result) (madeByte (lentHall (c .before .before .before .before .before .before .before .args .width) (c .before .before .before .before .before .before .before .args .height) (c .before .before .before .before .before .before .before .args .hall .now)) (c .before .before .before .before .before .before .before .args .width * c .before .before .before .before .before .before .before .args .height) (c .before .before .fill-end .last .1 .1 .1 .1 .1 .0) (c .before .before .before .before .before .before .before .args .base + c .before .before .before .before .before .before .before .args .width * c .before .before .before .before .before .before .before .args .height)) (c .before .before .fill-end .last .1 .1 .1 .1 .1 .0) (omega arith))
 
-mul-span-start : tie.Need-mul-span-start Inv-loop μ-loop
-mul-span-start c = let small = area-small {w = c .before .before .before .before .before .before .before .before .before .args .width} {h = c .before .before .before .before .before .before .before .before .before .args .height} (omega arith) (omega arith) in omega arith
-
 span-start-requires : tie.Need-span-start-requires Inv-loop μ-loop
-span-start-requires c κs = rows-some (c .before .before .before .before .before .before .before .before .before .args .width) (c .before .before .before .before .before .before .before .before .before .args .height) (omega arith)
+span-start-requires c κs = search needs
 
 fill-span-requires : tie.Need-fill-span-requires Inv-loop μ-loop
-fill-span-requires c κs = let some = rows-some (c .before .before .before .before .before .before .before .before .before .before .before .args .width) (c .before .before .before .before .before .before .before .before .before .before .before .args .height) (omega arith) in let less = start-before (c .before .before .before .before .before .before .before .before .before .before .before .args .width) (c .before .before .before .before .before .before .before .before .before .before .before .args .width * c .before .before .before .before .before .before .before .before .before .before .before .args .height) (c .before .before .before .loop .end) (omega arith) some (c .before .before .loop-test .taken) in let bottom = c .before .before .before .before .before .before .fill-end .ensures in (omega (arith, c .before .span-start .ensures, bottom .within, bottom .room, bottom .made .long, c .before .before .before .loop .inv .1 .long), c .before .before .before .before .before .before .before .before .before .before .before .pre .1)
+fill-span-requires c κs = let some = rows-some (c .before .before .before .before .before .before .before .before .before .before .before .args .width) (c .before .before .before .before .before .before .before .before .before .before .before .args .height) (omega arith) in let less = start-before (c .before .before .before .before .before .before .before .before .before .before .before .args .width) (c .before .before .before .loop .end) (c .before .before .loop-test .taken) in let bottom = c .before .before .before .before .before .before .fill-end .ensures in (omega (arith, c .before .span-start .ensures, bottom .within, bottom .room, bottom .made .long, c .before .before .before .loop .inv .1 .long), c .before .before .before .before .before .before .before .before .before .before .before .pre .1)
 
 loop-less : tie.Need-loop-less Inv-loop μ-loop
-loop-less c = let some = rows-some (c .before .before .before .before .before .before .before .before .before .before .before .before .before .before .args .width) (c .before .before .before .before .before .before .before .before .before .before .before .before .before .before .args .height) (omega arith) in let less = start-before (c .before .before .before .before .before .before .before .before .before .before .before .before .before .before .args .width) (c .before .before .before .before .before .before .before .before .before .before .before .before .before .before .args .width * c .before .before .before .before .before .before .before .before .before .before .before .before .before .before .args .height) (c .before .before .before .before .before .before .loop .end) (omega arith) some (c .before .before .before .before .before .loop-test .taken) in omega (arith, c .before .before .before .before .span-start .ensures)
+loop-less c = let less = start-before (c .before .before .before .before .before .before .before .before .before .before .before .before .before .before .args .width) (c .before .before .before .before .before .before .loop .end) (c .before .before .before .before .before .loop-test .taken) in omega (arith, c .before .before .before .before .span-start .ensures)
 
 loop-again : tie.Need-loop-again Inv-loop μ-loop
-loop-again c = let some = rows-some (c .before .before .before .before .before .before .before .before .before .before .before .before .before .before .args .width) (c .before .before .before .before .before .before .before .before .before .before .before .before .before .before .args .height) (omega arith) in let less = start-before (c .before .before .before .before .before .before .before .before .before .before .before .before .before .before .args .width) (c .before .before .before .before .before .before .before .before .before .before .before .before .before .before .args .width * c .before .before .before .before .before .before .before .before .before .before .before .before .before .before .args .height) (c .before .before .before .before .before .before .loop .end) (omega arith) some (c .before .before .before .before .before .loop-test .taken) in let bottom = c .before .before .before .before .before .before .before .before .before .fill-end .ensures in (omega (arith, c .before .before .before .before .span-start .ensures), rows-more (lentHall (c .before .before .before .before .before .before .before .before .before .before .before .before .before .before .args .width) (c .before .before .before .before .before .before .before .before .before .before .before .before .before .before .args .height) (c .before .before .before .before .before .before .before .before .before .before .before .before .before .before .args .hall .now)) (c .before .before .before .before .before .before .before .before .before .before .before .before .before .before .args .width * c .before .before .before .before .before .before .before .before .before .before .before .before .before .before .args .height) (c .before .before .before .before .before .before .before .before .before .before .before .before .before .before .args .base) (c .before .before .before .before .span-start .result) (c .before .before .before .before .before .before .loop .end) (c .before .before .before .before .before .before .before .before .before .fill-end .result) (c .before .before .before .before .before .before .before .before .before .fill-end .last .1 .1 .1 .1 .1 .0) (c .before .before .before .before .before .before .loop .layers) (c .before .before .fill-span .last .1 .1 .1 .1 .1 .1 .1 .0) (bottom .within) (c .before .before .before .before .before .before .loop .inv .1) (c .before .before .fill-span .ensures) (omega (arith, c .before .before .before .before .span-start .ensures)) (c .before .before .before .before .before .before .loop .inv .0))
+loop-again c = let less = start-before (c .before .before .before .before .before .before .before .before .before .before .before .before .before .before .args .width) (c .before .before .before .before .before .before .loop .end) (c .before .before .before .before .before .loop-test .taken) in let bottom = c .before .before .before .before .before .before .before .before .before .fill-end .ensures in (omega (arith, c .before .before .before .before .span-start .ensures), rows-more (lentHall (c .before .before .before .before .before .before .before .before .before .before .before .before .before .before .args .width) (c .before .before .before .before .before .before .before .before .before .before .before .before .before .before .args .height) (c .before .before .before .before .before .before .before .before .before .before .before .before .before .before .args .hall .now)) (c .before .before .before .before .before .before .before .before .before .before .before .before .before .before .args .width * c .before .before .before .before .before .before .before .before .before .before .before .before .before .before .args .height) (c .before .before .before .before .before .before .before .before .before .before .before .before .before .before .args .base) (c .before .before .before .before .span-start .result) (c .before .before .before .before .before .before .loop .end) (c .before .before .before .before .before .before .before .before .before .fill-end .result) (c .before .before .before .before .before .before .before .before .before .fill-end .last .1 .1 .1 .1 .1 .0) (c .before .before .before .before .before .before .loop .layers) (c .before .before .fill-span .last .1 .1 .1 .1 .1 .1 .1 .0) (bottom .within) (c .before .before .before .before .before .before .loop .inv .1) (c .before .before .fill-span .ensures) (omega (arith, c .before .before .before .before .span-start .ensures)) (c .before .before .before .before .before .before .loop .inv .0))
 
 same-length : tie.Need-same-length Inv-loop μ-loop
 same-length c = c .before .loop .inv .1 .long ∙ c .before .before .before .before .fill-end .ensures .made .long
@@ -51,7 +47,6 @@ fill-rows-spec =
     μ-loop
     fill-end-requires
     loop-holds
-    mul-span-start
     span-start-requires
     fill-span-requires
     loop-less
