@@ -4,9 +4,9 @@
 //! a node are walked once a route, into marks; the search is best-first over
 //! record columns. Safe Rust over slices.
 //!
-//! A layer is filled in one of two ways ([`fill`]): cell by cell, as the proved
-//! planner does it, or all cells of the layer at once, which the compiler turns
-//! into vector instructions. All else is shared.
+//! A layer is filled in one of two ways ([`fill`]): cell by cell, or all cells of
+//! the layer at once, which the compiler turns into vector instructions. All else
+//! is shared.
 
 #![forbid(unsafe_code)]
 
