@@ -8,7 +8,6 @@ use mathlib.Core.List.{[], _∷_}
 use borrow.Author.Tests.{eqb-true, eqb-false}
 use lib.Dec.{eqb}
 use lib.ListN.{getD}
-use lib.Pow.{pow-pos}
 use Rattle.lists.specs.Lists.{sumTo}
 use Rattle.lists.proofs.Sums.{sum-same, sum-changed}
 use Rattle.hall.specs.Moves.{moveCount}
@@ -89,9 +88,6 @@ fits-at x (suc (suc zero)) h l e = omega arith
 fits-at x (suc (suc (suc zero))) h l e = omega arith
 fits-at x (suc (suc (suc (suc zero)))) h l e = omega arith
 fits-at x (suc (suc (suc (suc (suc m))))) h l e = absurd (omega arith)
-
-pub weight-some : (m d : ℕ) → d ≡ 2 ^ m → 0 < d
-weight-some m d e = rw e (pow-pos m)
 
 pub digit-fits : (x m d : ℕ) → m < moveCount → x < 256 → d ≡ 2 ^ m → x / d % 2 ≡ 0 → x + d < 256
 digit-fits x m d h l e z = rw e (fits-at x m h l (rw e at z))

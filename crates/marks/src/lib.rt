@@ -61,9 +61,8 @@ fn with_digit(mark: u8, m: usize) -> u8
     requires { ⌜ m < 5 ⌝ }
     ensures { λ r. ⌜ r ≡ withDigit mark m ⌝ }
 {
-    let d = digit_of(m);
-    if mark / d % 2 == 0 {
-        return mark + d;
+    if (mark >> m) % 2 == 0 {
+        return mark + digit_of(m);
     }
     mark
 }
