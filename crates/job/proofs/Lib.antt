@@ -1,4 +1,5 @@
 pub mod Accepted
+pub mod Due
 pub mod JobCode
 pub mod Settled
 pub mod Wrong

@@ -5,15 +5,13 @@ use native.Mathlib.Omega.{arith}
 use mathlib.Core.Bool.{true, false}
 use mathlib.Core.List.{List}
 use mathlib.Core.Path.{_≡_, refl, sym, subst}
-use lib.Dec.{eqb, ltb}
-use borrow.Author.Tests.{ltb-false}
 use Rattle.lists.proofs.Sums.{sum-at-most}
-use Rattle.lists.proofs.Tests.{or-fails}
 use Rattle.job.specs.Job.{Job, wrongCapacity}
 use Rattle.job.specs.Verdict.{judgeWith}
 use Rattle.job.specs.declared.Verdict.{Verdict}
 use Rattle.job.specs.declared.Verdict.the-variants.{Accepted}
 use Rattle.job.proofs.Accepted.{accepted-facts}
+use Rattle.job.proofs.Due.{accepted-exactly}
 use Rattle.routes.specs.Route.{Lawful, cost}
 use Rattle.routes.proofs.Cost.{cost-least}
 use Rattle.tree.specs.Plan.{Routes, routeOf, total, Family}
@@ -46,13 +44,9 @@ seven-short job n ts = short-by job n ts (planned job n ts .answer) (known job n
 pub cost-within : (job : Job) (i : ℕ) (r : List ℕ) → Lawful job i r → cost (job .goalOf i) r ≤ job .horizon
 cost-within job i r law = cost-least (job .goalOf i) (job .horizon) r (law .long) (law .ends) .within
 
-most-records : (n : ℕ) → wrongCapacity n ≡ false → n ≤ 1024
-unfolding wrongCapacity
-most-records n e = ltb-false 1024 n (or-fails (eqb n 0) (ltb 1024 n) e .1)
-
 module _ (job : Job) (n : ℕ) (accepted : judgeWith (wrongCapacity n) job ≡ Accepted) where
   records-small : (r : ℕ) → r ≤ n → r ≤ 1024
-  records-small r l = omega (arith, most-records n (accepted-facts (wrongCapacity n) job accepted .capacity))
+  records-small r l = omega (arith, accepted-exactly job n .0 accepted .1 .most)
 
   -- at most 8 carriers, each with a cost of at most H
   total-small : (rs : Routes) → Family job rs → total job rs < 1000
@@ -66,11 +60,11 @@ module _ (job : Job) (n : ℕ) (accepted : judgeWith (wrongCapacity n) job ≡ A
 
 answer-small : (job : Job) (n : ℕ) (ts : Tables) (answer : Answer) (after : Tables) → Promised job n ts answer after → Known job n ts answer → Small (answerTold answer)
 unfolding Promised Known
-answer-small job n ts (Plan s r) after (rs, least, written, few) k =
+answer-small job n ts (Plan s r) after (rs, least, written, few, need) k =
     counted-small 0 s r (omega arith) (omega (arith, least .told, total-small job n k rs (least .plan .family))) (records-small job n k r few)
 answer-small job n ts (Refused v) after p k = subst SmallVerdict (sym (k .0)) (judged-small (wrongCapacity n) job)
 answer-small job n ts Short after p k = bare-small 7 (omega arith)
-answer-small job n ts (NoPlan r) after p k = counted-small 8 0 r (omega arith) (omega arith) (records-small job n k r (p .1))
+answer-small job n ts (NoPlan r) after p k = counted-small 8 0 r (omega arith) (omega arith) (records-small job n k r (p .1 .0))
 answer-small job n ts (Full r) after p k = counted-small 9 0 r (omega arith) (omega arith) (records-small job n k r (omega (arith, p .0)))
 
 pub told-small : (job : Job) (n : ℕ) (ts : Tables) → Small (answerTold (planned job n ts .answer))
@@ -90,7 +84,7 @@ pub record Found (job : Job) (n : ℕ) (ts : Tables) (answer : Answer) (after : 
 
 found : (job : Job) (n : ℕ) (ts : Tables) (answer : Answer) (after : Tables) → Promised job n ts answer after → Known job n ts answer → answerTold answer .number ≡ 0 → Found job n ts answer after
 unfolding Promised Known
-found job n ts (Plan s r) after (rs, least, written, few) k is =
+found job n ts (Plan s r) after (rs, least, written, few, need) k is =
     record { routes = rs; sum = s; records = r; told = refl; least = least; written = written; made = few; accepted = k }
 found job n ts (Refused v) after p k is = absurd (omega (arith, k .1))
 found job n ts Short after p k is = absurd (omega arith)

@@ -16,7 +16,7 @@ use Rattle.job.specs.Verdict.{verdictTold, endsVerdict, sharedVerdict, judgeWit
 use Rattle.job.specs.declared.Told.{Told}
 use Rattle.job.specs.declared.Verdict.{Verdict}
 use Rattle.job.specs.declared.Verdict.the-variants.{WrongGrid, WrongBytes, WrongLimits, WrongCount}
-use Rattle.job.proofs.Accepted.{count-right}
+use Rattle.job.proofs.Due.{count-right}
 
 pub record Small (told : Told) : Type 0 where
   pub number : told .number ≤ 9

@@ -1,26 +1,25 @@
 -- The planner's answer by its checks: refused, a table too short, or what the search gives; and what checks 1 to 7 show.
 -- Assumes nothing.
 use Prim.Native.Nat.{ℕ, _+_, _*_, _≤_, _<_}
-use native.Mathlib.Omega.{arith}
 use native.Mathlib.Nat.{mul-le-mul}
 use mathlib.Core.Path.{_≡_, refl, sym, ap, subst, _∙_}
 use mathlib.Core.Bool.{Bool, true, false}
 use mathlib.Core.List.{List, [], _∷_}
-use borrow.Author.Tests.{lt-ltb, le-ltb, ltb-false, eqb-false, ltb-true}
+use borrow.Author.Tests.{lt-ltb, le-ltb}
 use denote.Enum.Declared.{tagOf}
 use types.Run.{OneOf, miss}
-use lib.Dec.{T, ltb, eqb}
+use lib.Dec.{ltb}
 use lib.ListN.{length, getD}
-use Rattle.lists.proofs.Tests.{is-true, and-both, or-fails}
-use Rattle.hall.specs.Hall.{Hall, size, isOpen}
 use Rattle.job.specs.Job.{Job, wrongCapacity}
 use Rattle.job.specs.Verdict.{judgeWith, ifAccepted}
 use Rattle.job.specs.declared.Verdict.{Verdict}
 use Rattle.job.specs.declared.Verdict.the-variants.{Accepted, WrongGrid, WrongBytes, WrongLimits, WrongCount, WrongEnds, SharedEnds}
 use Rattle.job.proofs.Accepted.{Facts, accepted-facts, plan-small}
+use Rattle.job.proofs.Due.{open-exact, capacity-exact}
 use Rattle.job.proofs.Verdict.{the-type}
 use Rattle.tree.specs.Tree.{tree}
 use Rattle.tables.specs.Tables.{Tables, plansLength, layersLength, shortTable}
+use Rattle.tables.proofs.LongTables.{long-exact}
 use Rattle.children.specs.declared.Task.{Task}
 use Rattle.planner.specs.declared.Answer.{Answer}
 use Rattle.planner.specs.declared.Answer.the-variants.{Refused, Short}
@@ -66,25 +65,11 @@ module _ (task : Task) (ts : Tables) where
 
   -- no table is too short
   pub roomy : shortTable (jobIn task) (task .capacity) ts ≡ false → Roomy task (ts .columns) (ts .plans) (ts .layers) (ts .output)
-  unfolding shortTable
   roomy e =
-      let (a, b) = or-fails _ _ e in
-      let (x, y) = or-fails _ _ a in
-      let (z, w) = or-fails _ _ b in
-      record { columns-room = ltb-false _ _ x; plans-room = ltb-false _ _ y; layers-room = ltb-false _ _ z; output-room = ltb-false _ _ w }
+      let l = long-exact (jobIn task) (task .capacity) ts .0 e in
+      record { columns-room = l .columns; plans-room = l .plans; layers-room = l .layers; output-room = l .output }
 
 -- ---- what checks 1 to 6 show
-
-capacity-right : (n : ℕ) → wrongCapacity n ≡ false → (1 ≤ n) × (n ≤ 1024)
-unfolding wrongCapacity
-capacity-right n e =
-    let (z, l) = or-fails (eqb n 0) (ltb 1024 n) e in
-    let some : n ≡ 0 → ⊥ = eqb-false n 0 z in
-    (omega (arith, some), ltb-false 1024 n l)
-
-inside-open : (hall : Hall) (v : ℕ) → T (isOpen hall v) → v < size hall
-unfolding isOpen
-inside-open hall v t = ltb-true v (size hall) (is-true (and-both (ltb v (size hall)) _ t .0))
 
 module _ (task : Task) (bytes : List ℕ) (v : Verdict) (wrongN : Bool) (is : v ≡ judgeWith wrongN (jobOn task bytes)) (of-n : wrongN ≡ wrongCapacity (task .capacity)) (yes-to : v ≡ Accepted) where
   facts : Facts (wrongCapacity (task .capacity)) (jobOn task bytes)
@@ -98,7 +83,7 @@ module _ (task : Task) (bytes : List ℕ) (v : Verdict) (wrongN : Bool) (is : v 
         height-most = f .heightMost;
         horizon-most = f .horizonMost;
         count-most = f .countMost;
-        capacity-most = capacity-right (task .capacity) (f .capacity) .1;
+        capacity-most = capacity-exact (task .capacity) .0 (f .capacity) .most;
       }
 
   pub ready : (layers : List ℕ) → layersLength (jobIn task) ≤ length layers → Ready task bytes layers
@@ -114,9 +99,9 @@ module _ (task : Task) (bytes : List ℕ) (v : Verdict) (wrongN : Bool) (is : v 
         horizon-most = f .horizonMost;
         count-least = f .countLeast;
         count-most = f .countMost;
-        capacity-least = capacity-right (task .capacity) (f .capacity) .0;
-        capacity-most = capacity-right (task .capacity) (f .capacity) .1;
-        starts-inside = λ i l. inside-open (jobOn task bytes .hall) (getD (task .team .starts) i 0) (f .startOpen i l);
+        capacity-least = capacity-exact (task .capacity) .0 (f .capacity) .least;
+        capacity-most = capacity-exact (task .capacity) .0 (f .capacity) .most;
+        starts-inside = λ i l. open-exact (jobOn task bytes) (getD (task .team .starts) i 0) .0 (f .startOpen i l) .inside;
         layers-long = room;
       }
 

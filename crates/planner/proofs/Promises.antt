@@ -3,68 +3,57 @@
 use Prim.Native.Nat.{ℕ, _≤_, _<_}
 use native.Mathlib.Omega.{arith}
 use native.Mathlib.Decide.{decLe}
-use mathlib.Core.Path.{_≡_, refl}
+use mathlib.Core.Path.{_≡_, refl, sym, subst}
 use mathlib.Core.Bool.{Bool, true, false}
 use mathlib.Core.Option.{Option, none, some}
-use lib.Dec.{eqb, ltb}
-use borrow.Author.Tests.{eqb-false}
-use Rattle.lists.proofs.Tests.{is-false, of-false, or-left}
 use Rattle.job.specs.Job.{Job, wrongCapacity}
 use Rattle.job.specs.Verdict.{judgeWith, ifAccepted}
 use Rattle.job.specs.declared.Verdict.{Verdict}
 use Rattle.job.specs.declared.Verdict.the-variants.{Accepted, WrongGrid, WrongBytes, WrongLimits, WrongCount, WrongEnds, SharedEnds}
-use Rattle.job.proofs.Accepted.{accepted-facts}
+use Rattle.job.proofs.Due.{accepted-exactly}
 use Rattle.search.specs.Search.{Outcome, done, full}
 use Rattle.tree.specs.Tree.{Node, tree}
-use Rattle.tree.specs.Promises.{Need}
+use Rattle.tree.specs.Promises.{NeedIs}
 use Rattle.tree.proofs.Promises.{tree-least, tree-none, tree-need}
 use Rattle.tables.specs.Tables.{Tables, shortTable, workedOn, withPlan}
 use Rattle.planner.specs.Answer.{Result, searched, enough, planned}
-use Rattle.planner.specs.Promises.{Promised}
+use Rattle.planner.specs.Promises.{Needed, Promised}
 
 abbrev Kept : Job → ℕ → Tables → Result → Type 0
 Kept job capacity ts r = Promised job capacity ts (r .answer) (r .tables)
 
-pub one-record : (capacity : ℕ) → wrongCapacity capacity ≡ false → 1 ≤ capacity
-unfolding wrongCapacity
-one-record capacity e =
-    let n : eqb capacity 0 ≡ false = is-false (λ t. of-false e (or-left (eqb capacity 0) (ltb 1024 capacity) t)) in
-    let z : capacity ≡ 0 → ⊥ = eqb-false capacity 0 n in
-    omega (arith, z)
-
 module _ (job : Job) (capacity : ℕ) (ts : Tables) (one : 1 ≤ capacity) where
-  -- a search that ends within its records made no more than it had
-  within : (end : Option Node) (r : ℕ) → tree job capacity ≡ done end r → r ≤ capacity
-  within end r e = go (decLe (tree-need job .need) capacity)
+  -- a search that ends within its records made as many as the tree needs
+  ended : (end : Option Node) (r : ℕ) → tree job capacity ≡ done end r → (r ≤ capacity) × Needed job r
+  ended end r e = go (decLe (tree-need job .need) capacity)
     where
-      go : Dec (tree-need job .need ≤ capacity) → r ≤ capacity
+      go : Dec (tree-need job .need ≤ capacity) → (r ≤ capacity) × Needed job r
       go (yes l) =
           let f : tree job capacity ≡ done (tree-need job .end) (tree-need job .need) = tree-need job .is .enough capacity one l in
           let g : r ≡ tree-need job .need = cc (e, f) in
-          omega arith
+          (omega arith, tree-need job .end, subst (λ (n : ℕ). NeedIs job n (tree-need job .end)) (sym g) (tree-need job .is))
       go (no l) =
           let f : tree job capacity ≡ full capacity = tree-need job .is .short capacity one (omega (arith, l)) in
           absurd (let z : _≡_ {A = ℕ} 0 1 = cc (e, f) in omega arith)
 
-  short-of : (r : ℕ) → tree job capacity ≡ full r → (r ≡ capacity) × ((n : Need job) → capacity < n .need)
-  short-of r e = (go (decLe (tree-need job .need) capacity), λ n. less n (decLe (n .need) capacity))
+  -- one that does not has fewer than the tree needs
+  short-of : (r : ℕ) → tree job capacity ≡ full r → (r ≡ capacity) × (need : ℕ) × (capacity < need) × Needed job need
+  short-of r e = go (decLe (tree-need job .need) capacity)
     where
-      go : Dec (tree-need job .need ≤ capacity) → r ≡ capacity
+      go : Dec (tree-need job .need ≤ capacity) → (r ≡ capacity) × (need : ℕ) × (capacity < need) × Needed job need
       go (yes l) =
           let f : tree job capacity ≡ done (tree-need job .end) (tree-need job .need) = tree-need job .is .enough capacity one l in
           absurd (let z : _≡_ {A = ℕ} 0 1 = cc (e, f) in omega arith)
-      go (no l) = let f : tree job capacity ≡ full capacity = tree-need job .is .short capacity one (omega (arith, l)) in cc (e, f)
-
-      less : (n : Need job) → Dec (n .need ≤ capacity) → capacity < n .need
-      less n (yes l) =
-          let f : tree job capacity ≡ done (n .end) (n .need) = n .is .enough capacity one l in
-          absurd (let z : _≡_ {A = ℕ} 0 1 = cc (e, f) in omega arith)
-      less n (no l) = omega (arith, l)
+      go (no l) =
+          let less : capacity < tree-need job .need = omega (arith, l) in
+          let f : tree job capacity ≡ full capacity = tree-need job .is .short capacity one less in
+          let g : r ≡ capacity = cc (e, f) in
+          (g, tree-need job .need, less, tree-need job .end, tree-need job .is)
 
   searched-kept : (o : Outcome Node) → tree job capacity ≡ o → Kept job capacity ts (searched job capacity ts o)
   unfolding searched Promised withPlan workedOn
-  searched-kept (done (some n) r) e = (n .routes, tree-least job capacity one n r e, refl, within (some n) r e)
-  searched-kept (done none r) e = (tree-none job capacity one r e, within none r e)
+  searched-kept (done (some n) r) e = (n .routes, tree-least job capacity one n r e, refl, ended (some n) r e)
+  searched-kept (done none r) e = (tree-none job capacity one r e, ended none r e)
   searched-kept (full r) e = short-of r e
 
   enough-kept : Kept job capacity ts (enough job capacity ts)
@@ -80,7 +69,7 @@ unfolding planned ifAccepted Promised
 planned-promised job capacity ts = go (judgeWith (wrongCapacity capacity) job) refl
   where
     go : (v : Verdict) → judgeWith (wrongCapacity capacity) job ≡ v → Kept job capacity ts (ifAccepted v (enough job capacity ts) (record { answer = Rattle.planner.specs.declared.Answer.the-variants.Refused v; tables = ts }))
-    go Accepted e = enough-kept job capacity ts (one-record capacity (accepted-facts (wrongCapacity capacity) job e .capacity))
+    go Accepted e = enough-kept job capacity ts (accepted-exactly job capacity .0 e .1 .least)
     go WrongGrid e = tt
     go WrongBytes e = tt
     go WrongLimits e = tt

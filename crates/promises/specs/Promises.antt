@@ -1,133 +1,174 @@
 -- What the archive asked, sentence by sentence, and beside each the formal line. Statements only: [name] is the law in
--- proofs/Kept.antt that proves the line below it, for every job, every N and all tables.
+-- proofs/Kept.antt that proves the line below it.
 --
--- `Planned job n before r after` is the whole contract of the planner (`entry::plan`; crate planner, specs/Post.antt): called with
--- this job, N = n and these lent tables it may give back r and leave the tables `after`. The contract of the route check
--- (`entry::check_routes`) is `r ≡ routeVerdict job plan`, that of the meeting check `m ≡ meetingVerdict job plan`. None of the
--- three has a `requires`, and each ends: the prover takes no loop and no recursion without a measure that falls.
--- Words used: a job, `Lawful` routes and their `cost`, `Apart` (no meeting, no swap), patterns of holds (`Survives`), the lent
--- `Tables`: crates job, routes, clashes, tree, tables, in specs/.
+-- Each line speaks of any planner and of any two checks. `gives job n before told after` says that the planner, called with this job,
+-- N = n and the lent tables `before`, may tell `told` and leave the tables `after`; `routes job plan fault` and `meetings job plan fault`
+-- that the route check or the meeting check, called with this job and the bytes of a plan, may tell `fault`. So a line says by itself
+-- what it promises, and proofs/Broken.antt shows that no broken planner keeps them. Ours (specs/Ours.antt) are what the contracts of
+-- `entry::plan`, `entry::check_routes` and `entry::check_meetings` say and nothing more. None of the three has a `requires`, and each
+-- ends: the prover takes no loop and no recursion without a measure that falls.
+--
+-- Words used: a job that is right (`RightJob`, in plain numbers), `Lawful` routes and their `cost`, `Apart` (no meeting, no swap),
+-- patterns of holds (`Survives`), the lent `Tables`, and the tree's `NeedIs`: crates job, routes, clashes, tree, tables, in specs/.
 use Prim.Native.Nat.{ℕ, _≤_, _<_}
 use mathlib.Core.Path.{_≡_}
-use mathlib.Core.Bool.{true, false}
-use mathlib.Core.List.{List, _++_}
+use mathlib.Core.List.{List}
 use mathlib.Core.Logic.{_⊎_, _↔_}
-use lib.ListN.{length, take}
-use Rattle.lists.specs.Lists.{range, each}
+use mathlib.Core.Option.{Option, none, some}
+use lib.ListN.{take}
 use Rattle.lent.specs.Lent.{zeroed}
-use Rattle.job.specs.Job.{Job, wrongCapacity}
-use Rattle.job.specs.Verdict.{judgeWith, IsAccepted}
+use Rattle.job.specs.Job.{Job, planLength, wrongCapacity}
+use Rattle.job.specs.Due.{RightJob, RightCapacity, Due}
+use Rattle.job.specs.Told.{bare}
+use Rattle.job.specs.Verdict.{judgeWith, judge, verdictTold}
 use Rattle.job.specs.declared.Verdict.the-variants.{Accepted}
-use Rattle.routes.specs.Check.{routeVerdict, routeTold}
-use Rattle.routes.specs.declared.RouteVerdict.{RouteVerdict}
-use Rattle.clashes.specs.Check.{meetingVerdict, meetingTold}
-use Rattle.clashes.specs.declared.MeetingVerdict.{MeetingVerdict}
+use Rattle.job.specs.declared.Told.{Told}
+use Rattle.job.specs.declared.Fault.{Fault}
 use Rattle.checks.specs.Demand.{LawfulRoutes, Safe}
-use Rattle.tree.specs.Plan.{Routes, routeOf, IsPlan, IsSafe, Family, total}
-use Rattle.tree.specs.Promises.{LeastPlan}
-use Rattle.tables.specs.Tables.{Tables, columnsLength, plansLength, layersLength, shortTable, planWritten}
-use Rattle.planner.specs.Answer.{answerTold, planned}
-use Rattle.planner.specs.Post.{Planned}
-use Rattle.planner.specs.declared.Answer.{Answer}
-use Rattle.planner.specs.declared.Answer.the-variants.{Refused, Short}
-use Rattle.book.specs.Book.{bookVerdict}
-use Rattle.book.specs.declared.BookVerdict.the-variants.{Good}
-use Rattle.lines.specs.Lines.{answerWord, sumWord, recordsWord, numberLine, carrierLine}
-use Rattle.lines.specs.Printed.{jobIn, bookText, bookTables, Printed}
+use Rattle.tree.specs.Plan.{Routes, IsPlan, IsSafe, Family, total}
+use Rattle.tree.specs.Tree.{Node}
+use Rattle.tree.specs.Promises.{NeedIs}
+use Rattle.tables.specs.Tables.{Tables, columnsLength, plansLength, layersLength, LongTables, planWritten}
 
--- the number given back
-abbrev pub numberOf : Answer → ℕ
-numberOf r = answerTold r .number
+-- a planner, and a check, as their callers see them
+abbrev pub Planner : Type 1
+Planner = Job → ℕ → Tables → Told → Tables → Type 0
+
+abbrev pub Check : Type 1
+Check = Job → List ℕ → Fault → Type 0
 
 -- checks 1 to 6 pass, with N; and no lent table is too short
 pub record Runs (job : Job) (n : ℕ) (before : Tables) : Type 0 where
-  pub accepted : judgeWith (wrongCapacity n) job ≡ Accepted
-  pub long : shortTable job n before ≡ false
+  pub right : RightJob job
+  pub capacity : RightCapacity n
+  pub long : LongTables job n before
 
--- ---- 1. 'The planner takes any job and any lent tables, checks them itself, and always ends with a plan or a numbered refusal;
--- ---- document 01 says when each number comes and what every table holds afterwards.'
+-- [accepted-exactly], [checks-accept-exactly] a job is accepted exactly if its numbers are within document 01's limits, for the planner
+-- with N and for the two checks without
+unfoldable pub AcceptedExactly : Type 0
+AcceptedExactly = (job : Job) (n : ℕ) → (judgeWith (wrongCapacity n) job ≡ Accepted) ↔ (RightJob job × RightCapacity n)
+
+unfoldable pub ChecksAcceptExactly : Type 0
+ChecksAcceptExactly = (job : Job) → (judge job ≡ Accepted) ↔ RightJob job
+
+-- ---- 1. 'The planner takes any job and any tables we lend it, checks them itself and always ends with a plan or a numbered refusal.
+-- ---- Document 01 says when each number is given and what every table holds afterwards.'
 
 -- [always-numbered] 0 is a plan, 1 to 9 refuse
-unfoldable pub AlwaysNumbered : Type 0
-AlwaysNumbered = (job : Job) (n : ℕ) (before : Tables) (r : Answer) (after : Tables) → Planned job n before r after → numberOf r ≤ 9
+unfoldable pub AlwaysNumbered : Planner → Type 0
+AlwaysNumbered gives = (job : Job) (n : ℕ) (before : Tables) (told : Told) (after : Tables) → gives job n before told after → told .number ≤ 9
 
--- [refuses-first] checks 1 to 6, the lowest number first; 'no lent entry has changed'
-unfoldable pub RefusesFirst : Type 0
-RefusesFirst = (job : Job) (n : ℕ) (before : Tables) (r : Answer) (after : Tables) → Planned job n before r after → (judgeWith (wrongCapacity n) job ≡ Accepted → ⊥) → (r ≡ Refused (judgeWith (wrongCapacity n) job)) × (after ≡ before)
+-- [refuses-first] a job that is not right, or N: the number of 1 to 6 that is due, in document 01's words and by the definition that
+-- gives it; 'no lent entry has changed'
+unfoldable pub RefusesFirst : Planner → Type 0
+RefusesFirst gives =
+    (job : Job) (n : ℕ) (before : Tables) (told : Told) (after : Tables) → gives job n before told after → (RightJob job × RightCapacity n → ⊥)
+    → Due job (RightCapacity n) told × (told ≡ verdictTold (judgeWith (wrongCapacity n) job)) × (after ≡ before)
 
 -- [short-is-seven] then 7, 'a lent table is too short'; 'no lent entry has changed'
-unfoldable pub ShortIsSeven : Type 0
-ShortIsSeven = (job : Job) (n : ℕ) (before : Tables) (r : Answer) (after : Tables) → Planned job n before r after → judgeWith (wrongCapacity n) job ≡ Accepted → shortTable job n before ≡ true → (r ≡ Short) × (after ≡ before)
+unfoldable pub ShortIsSeven : Planner → Type 0
+ShortIsSeven gives =
+    (job : Job) (n : ℕ) (before : Tables) (told : Told) (after : Tables) → gives job n before told after → RightJob job → RightCapacity n
+    → (LongTables job n before → ⊥) → (told ≡ bare 7) × (after ≡ before)
 
 -- [tables-left] otherwise 0, 8 or 9: 'the named least lengths of the first three tables are all zero and the rest unchanged. Output
 -- changes only for 0'
-pub record Left (job : Job) (n : ℕ) (before : Tables) (r : Answer) (after : Tables) : Type 0 where
-  pub number : (numberOf r ≡ 0) ⊎ ((numberOf r ≡ 8) ⊎ (numberOf r ≡ 9))
+pub record Left (job : Job) (n : ℕ) (before : Tables) (told : Told) (after : Tables) : Type 0 where
+  pub number : (told .number ≡ 0) ⊎ ((told .number ≡ 8) ⊎ (told .number ≡ 9))
   pub columns : after .columns ≡ zeroed (columnsLength n) (before .columns)
   pub plans : after .plans ≡ zeroed (plansLength job n) (before .plans)
   pub layers : after .layers ≡ zeroed (layersLength job) (before .layers)
-  pub output : (numberOf r ≡ 0) ⊎ (after .output ≡ before .output)
+  pub output : (told .number ≡ 0) ⊎ (after .output ≡ before .output)
 
-unfoldable pub TablesLeft : Type 0
-TablesLeft = (job : Job) (n : ℕ) (before : Tables) (r : Answer) (after : Tables) → Planned job n before r after → Runs job n before → Left job n before r after
+unfoldable pub TablesLeft : Planner → Type 0
+TablesLeft gives = (job : Job) (n : ℕ) (before : Tables) (told : Told) (after : Tables) → gives job n before told after → Runs job n before → Left job n before told after
 
--- [nothing-else] answer and tables are settled: two that the contract allows are equal
-unfoldable pub NothingElse : Type 0
-NothingElse = (job : Job) (n : ℕ) (before : Tables) (r r′ : Answer) (after after′ : Tables) → Planned job n before r after → Planned job n before r′ after′ → (r ≡ r′) × (after ≡ after′)
+-- [nothing-else] what is told and every table are settled: two that the contract allows are equal
+unfoldable pub NothingElse : Planner → Type 0
+NothingElse gives =
+    (job : Job) (n : ℕ) (before : Tables) (told told′ : Told) (after after′ : Tables) → gives job n before told after → gives job n before told′ after′
+    → (told ≡ told′) × (after ≡ after′)
 
--- ---- 2. 'A plan obeys the k-delay rule (and the swap rule for k = 0), and none within the horizon that obeys it has a smaller sum.'
+-- ---- 2. 'A plan obeys the k-delay rule of Atzmon and others (2018), with the swap rule of Chen and others (2021) for k = 0, and no
+-- ---- plan within the horizon that obeys it has a smaller sum of costs.'
 
--- the routes that the output holds, carrier by carrier, then what was there
-pub record PlanGiven (job : Job) (before : Tables) (r : Answer) (after : Tables) (rs : Routes) : Type 0 where
+-- [zero-is-least] the output holds a plan, carrier by carrier, then what was there; the sum told is its own, and none is smaller
+pub record PlanGiven (job : Job) (before : Tables) (told : Told) (after : Tables) (rs : Routes) : Type 0 where
   pub written : after .output ≡ planWritten job rs (before .output)
   pub plan : IsPlan job rs
-  pub sum : answerTold r .sum ≡ total job rs
-  pub least : (qs : Routes) → IsPlan job qs → answerTold r .sum ≤ total job qs
-  pub safe : IsSafe job rs
-  pub least-safe : (qs : Routes) → Family job qs → IsSafe job qs → answerTold r .sum ≤ total job qs
+  pub sum : told .sum ≡ total job rs
+  pub least : (qs : Routes) → IsPlan job qs → told .sum ≤ total job qs
 
--- [zero-is-least]
-unfoldable pub ZeroIsLeast : Type 0
-ZeroIsLeast = (job : Job) (n : ℕ) (before : Tables) (r : Answer) (after : Tables) → Planned job n before r after → numberOf r ≡ 0 → (rs : Routes) × PlanGiven job before r after rs
+unfoldable pub ZeroIsLeast : Planner → Type 0
+ZeroIsLeast gives =
+    (job : Job) (n : ℕ) (before : Tables) (told : Told) (after : Tables) → gives job n before told after → told .number ≡ 0
+    → (rs : Routes) × PlanGiven job before told after rs
 
 -- [eight-is-none] '"No plan" comes only when none exists.'
-unfoldable pub EightIsNone : Type 0
-EightIsNone = (job : Job) (n : ℕ) (before : Tables) (r : Answer) (after : Tables) → Planned job n before r after → numberOf r ≡ 8 → (qs : Routes) → IsPlan job qs → ⊥
+unfoldable pub EightIsNone : Planner → Type 0
+EightIsNone gives =
+    (job : Job) (n : ℕ) (before : Tables) (told : Told) (after : Tables) → gives job n before told after → told .number ≡ 8
+    → (qs : Routes) → IsPlan job qs → ⊥
 
--- [nine-by-need] '"Records used up" comes exactly when document 01's search tree needs more records than were lent'
-pub record ByNeed (n need : ℕ) (r : Answer) : Type 0 where
-  pub under : n < need → (numberOf r ≡ 9) × (answerTold r .records ≡ n)
-  pub from : need ≤ n → ((numberOf r ≡ 0) ⊎ (numberOf r ≡ 8)) × (answerTold r .records ≡ need)
+-- [nine-by-need] '"Records used up" comes exactly when the search tree of document 01 needs more records than were lent': the need and
+-- the end are the tree's (`NeedIs`, which only one number and one end can be). From the need on the plan is the tree's, or there is none
+pub record ByNeed (job : Job) (n : ℕ) (before : Tables) (need : ℕ) (end : Option Node) (told : Told) (after : Tables) : Type 0 where
+  pub under : n < need → (told .number ≡ 9) × (told .records ≡ n)
+  pub from : need ≤ n → told .records ≡ need
+  pub plan : need ≤ n → (node : Node) → end ≡ some node → (told .number ≡ 0) × (after .output ≡ planWritten job (node .routes) (before .output))
+  pub none-left : need ≤ n → end ≡ none → told .number ≡ 8
 
-unfoldable pub NineByNeed : Type 0
-NineByNeed = (job : Job) → (need : ℕ) × ((n : ℕ) (before : Tables) (r : Answer) (after : Tables) → Planned job n before r after → Runs job n before → ByNeed n need r)
+unfoldable pub NineByNeed : Planner → Type 0
+NineByNeed gives =
+    (job : Job) → (need : ℕ) × (end : Option Node) × NeedIs job need end
+    × ((n : ℕ) (before : Tables) (told : Told) (after : Tables) → gives job n before told after → Runs job n before → ByNeed job n before need end told after)
 
--- [more-alters-nothing] 'more records never alter an answer already given', nor a plan: the output holds the same routes
-unfoldable pub MoreAltersNothing : Type 0
-MoreAltersNothing = (job : Job) (n n′ : ℕ) (before before′ : Tables) (r r′ : Answer) (after after′ : Tables) → Planned job n before r after → Planned job n′ before′ r′ after′ → Runs job n before → Runs job n′ before′ → n ≤ n′ → (numberOf r ≡ 9 → ⊥) → (r′ ≡ r) × (numberOf r ≡ 0 → (rs : Routes) × (after .output ≡ planWritten job rs (before .output)) × (after′ .output ≡ planWritten job rs (before′ .output)))
+-- [more-alters-nothing] 'more records never alter a plan or a "no plan" already given': what is told is the same, and the output holds
+-- the same routes
+unfoldable pub MoreAltersNothing : Planner → Type 0
+MoreAltersNothing gives =
+    (job : Job) (n n′ : ℕ) (before before′ : Tables) (told told′ : Told) (after after′ : Tables) → gives job n before told after → gives job n′ before′ told′ after′
+    → Runs job n before → Runs job n′ before′ → n ≤ n′ → (told .number ≡ 0) ⊎ (told .number ≡ 8)
+    → (told′ ≡ told) × (told .number ≡ 0 → (rs : Routes) × (after .output ≡ planWritten job rs (before .output)) × (after′ .output ≡ planWritten job rs (before′ .output)))
 
--- ---- 3. 'For an accepted job and lawful routes, the plan check passes them exactly when no pattern of holds, each carrier held at
--- ---- most k steps in all, ever brings two carriers into one cell or through each other, the time after the last step included.'
+-- ---- 3, its last sentence. 'So the plan returned has the least sum among all that survive every such pattern.'
 
--- [check-is-exact] r is what the route check gives back, m what the meeting check gives back; the plan check is both
-unfoldable pub CheckIsExact : Type 0
-CheckIsExact = (job : Job) (plan : List ℕ) (r : RouteVerdict) (m : MeetingVerdict) → r ≡ routeVerdict job plan → m ≡ meetingVerdict job plan → IsAccepted job → LawfulRoutes job plan → ((routeTold r .number ≡ 0) × (meetingTold m .number ≡ 0)) ↔ Safe job plan
+-- [least-of-the-safe]
+pub record SafeGiven (job : Job) (before : Tables) (told : Told) (after : Tables) (rs : Routes) : Type 0 where
+  pub written : after .output ≡ planWritten job rs (before .output)
+  pub safe : IsSafe job rs
+  pub sum : told .sum ≡ total job rs
+  pub least : (qs : Routes) → Family job qs → IsSafe job qs → told .sum ≤ total job qs
 
--- [pass-is-safe] and a plan that passes both, whatever its bytes, is of an accepted job, lawful and safe
-unfoldable pub PassIsSafe : Type 0
-PassIsSafe = (job : Job) (plan : List ℕ) (r : RouteVerdict) (m : MeetingVerdict) → r ≡ routeVerdict job plan → m ≡ meetingVerdict job plan → routeTold r .number ≡ 0 → meetingTold m .number ≡ 0 → IsAccepted job × LawfulRoutes job plan × Safe job plan
+unfoldable pub LeastOfTheSafe : Planner → Type 0
+LeastOfTheSafe gives =
+    (job : Job) (n : ℕ) (before : Tables) (told : Told) (after : Tables) → gives job n before told after → told .number ≡ 0
+    → (rs : Routes) × SafeGiven job before told after rs
 
--- ---- Beside the demands, document 01: 'The program reads at most 293 bytes from standard input, uses N = 128 and prints.'
---
--- `Printed (bookText book n before) (bookTables book n before) lent r after given` is the whole contract of `lines::book_lines` (crate
--- lines, specs/Printed.antt): called with any bytes as the book, N = n, these lent tables and the page `lent`, it may leave the page
--- `given` and the tables `after`. The program lends a page of 4,096 bytes and writes the first r of what is left.
+-- ---- 3. 'For an accepted job and routes that start, step and end lawfully within the horizon, the plan check passes them exactly when no
+-- ---- pattern of holds, each carrier held at most k steps in all, brings two carriers into one cell or through each other, at any moment
+-- ---- from the start on, the time after the last step included.' 'Passing both is what demand 3 calls the plan check.'
 
--- [page-whole] nothing is ever cut: what is written is the whole text, whatever the bytes that were read
-unfoldable pub PageWhole : Type 0
-PageWhole = (book : List ℕ) (n : ℕ) (before after : Tables) (lent given : List ℕ) (r : ℕ) → Printed (bookText book n before) (bookTables book n before) lent r after given → length lent ≡ 4096 → take r given ≡ bookText book n before
+-- [check-is-exact]
+unfoldable pub CheckIsExact : Check → Check → Type 0
+CheckIsExact routes meetings =
+    (job : Job) (plan : List ℕ) (r m : Fault) → routes job plan r → meetings job plan m → RightJob job → LawfulRoutes job plan
+    → ((r .number ≡ 0) × (m .number ≡ 0)) ↔ Safe job plan
 
--- [plan-printed] 'For 0, then `sum`, `records`, and for each carrier its number, cost and cells from step 0 to its cost.' The routes
--- are a plan of the job in the book, with no smaller sum; no carrier is left out
-unfoldable pub PlanPrinted : Type 0
-PlanPrinted = (book : List ℕ) (n : ℕ) (before : Tables) → bookVerdict book ≡ Good → numberOf (planned (jobIn book) n before .answer) ≡ 0 → (rs : Routes) × (records : ℕ) × LeastPlan (jobIn book) rs (total (jobIn book) rs) × (records ≤ n) × (bookText book n before ≡ numberLine answerWord 0 ++ (numberLine sumWord (total (jobIn book) rs) ++ numberLine recordsWord records ++ each (λ i. carrierLine i (jobIn book .goalOf i) (routeOf rs i)) (range 0 (jobIn book .count))))
+-- [pass-is-safe] and a plan that passes both, whatever its bytes, is of a right job, lawful and safe
+unfoldable pub PassIsSafe : Check → Check → Type 0
+PassIsSafe routes meetings =
+    (job : Job) (plan : List ℕ) (r m : Fault) → routes job plan r → meetings job plan m → r .number ≡ 0 → m .number ≡ 0
+    → RightJob job × LawfulRoutes job plan × Safe job plan
+
+-- [plan-is-read] 'bytes after that length are not read': both say of a plan what they say of its first m × (H + 1) bytes
+unfoldable pub PlanIsRead : Check → Check → Type 0
+PlanIsRead routes meetings =
+    (job : Job) (plan : List ℕ) (r r′ m m′ : Fault) → routes job plan r → routes job (take (planLength job) plan) r′
+    → meetings job plan m → meetings job (take (planLength job) plan) m′ → (r ≡ r′) × (m ≡ m′)
+
+-- [output-passes] demands 2 and 3 joined at the bytes: after 0 both checks say 0 about the output as it stands
+unfoldable pub OutputPasses : Planner → Check → Check → Type 0
+OutputPasses gives routes meetings =
+    (job : Job) (n : ℕ) (before : Tables) (told : Told) (after : Tables) (r m : Fault) → gives job n before told after → told .number ≡ 0
+    → routes job (after .output) r → meetings job (after .output) m → (r .number ≡ 0) × (m .number ≡ 0)

@@ -1,6 +1,7 @@
 pub mod Costs
 pub mod Grown
 pub mod Live
+pub mod LongTables
 pub mod Records
 pub mod Settled
 pub mod Stretches

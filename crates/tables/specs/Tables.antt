@@ -1,6 +1,6 @@
 -- Document 01, 'Lent tables, for m carriers: record columns, 16-bit, at least 8 × N; plans, bytes, at least
 -- N × m × (H + 1); layers, bytes, at least (H + 1) × width × height; output, at least m × (H + 1) bytes.'
-use Prim.Native.Nat.{ℕ, _+_, _*_}
+use Prim.Native.Nat.{ℕ, _+_, _*_, _≤_}
 use mathlib.Core.Bool.{Bool, _||_}
 use mathlib.Core.List.{List, _++_}
 use lib.Dec.{ltb}
@@ -31,6 +31,13 @@ unfoldable pub shortTable : Job → ℕ → Tables → Bool
 shortTable job capacity ts =
     ltb (length (ts .columns)) (columnsLength capacity) || ltb (length (ts .plans)) (plansLength job capacity)
     || (ltb (length (ts .layers)) (layersLength job) || ltb (length (ts .output)) (planLength job))
+
+-- none is: 'at least' so long
+pub record LongTables (job : Job) (capacity : ℕ) (ts : Tables) : Type 0 where
+  pub columns : columnsLength capacity ≤ length (ts .columns)
+  pub plans : plansLength job capacity ≤ length (ts .plans)
+  pub layers : layersLength job ≤ length (ts .layers)
+  pub output : planLength job ≤ length (ts .output)
 
 -- 'After 0, 8 and 9 the named least lengths of the first three tables are all zero and the rest unchanged.'
 unfoldable pub workedOn : Job → ℕ → Tables → Tables

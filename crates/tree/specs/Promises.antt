@@ -8,9 +8,9 @@ use Rattle.search.specs.Search.{done, full}
 use Rattle.tree.specs.Plan.{Routes, total, Family, IsPlan, IsSafe}
 use Rattle.tree.specs.Tree.{Node, tree}
 
--- Answer 0. 'A plan obeys the k-delay rule (and the swap rule for k = 0), and none within the horizon that obeys it has a
--- smaller sum.' The plans compared with are any lists of cells that are lawful. No pattern of holds brings two of its
--- carriers together, and no family of lawful routes of which that is true has a smaller sum.
+-- Answer 0. 'A plan obeys the k-delay rule of Atzmon and others (2018), with the swap rule of Chen and others (2021) for k = 0, and no
+-- plan within the horizon that obeys it has a smaller sum of costs.' The plans compared with are any lists of cells that are lawful.
+-- 'So the plan returned has the least sum among all that survive every such pattern.'
 pub record LeastPlan (job : Job) (rs : Routes) (sum : ℕ) : Type 0 where
   pub plan : IsPlan job rs
   pub told : sum ≡ total job rs
@@ -22,8 +22,8 @@ pub record LeastPlan (job : Job) (rs : Routes) (sum : ℕ) : Type 0 where
 unfoldable pub NoneExists : Job → Type 0
 NoneExists job = (qs : Routes) → IsPlan job qs → ⊥
 
--- '"Records used up" comes exactly when document 01's search tree needs more records than were lent; more records never
--- alter an answer already given.' One number, the need, divides the capacities from 1 up.
+-- '"Records used up" comes exactly when the search tree of document 01 needs more records than were lent; more records never alter a
+-- plan or a "no plan" already given.' One number, the need, divides the capacities from 1 up; the tree ends with a clear node or none.
 pub record NeedIs (job : Job) (need : ℕ) (end : Option Node) : Type 0 where
   pub enough : (capacity : ℕ) → 1 ≤ capacity → need ≤ capacity → tree job capacity ≡ done end need
   pub short : (capacity : ℕ) → 1 ≤ capacity → capacity < need → tree job capacity ≡ full capacity

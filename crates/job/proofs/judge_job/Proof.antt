@@ -5,7 +5,7 @@ use Rattle.hall.specs.Hall.{wrongGrid}
 use Rattle.hall.proofs.RightHall.{grid-right}
 use Rattle.job.specs.Job.{wrongLimits, wrongCount}
 use Rattle.job.specs.Team.{jobOf}
-use Rattle.job.proofs.Accepted.{count-right}
+use Rattle.job.proofs.Due.{count-right}
 use Rattle.job.proofs.JobCode.{judge-grid, judge-bytes, judge-limits, judge-capacity, judge-count, judge-rest, ends-same}
 use Rattle.job.proofs.judge_job.Statement.{statement}
 use Rattle.job.proofs.judge_job.Tie as tie

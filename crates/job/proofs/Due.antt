@@ -1,0 +1,318 @@
+-- Rows 0 to 6 of document 01's table are what `judgeWith` gives: each test fails exactly where its fact holds, the checks come in the
+-- order of their numbers, and the first that is found is the first in the order told. Assumes nothing.
+use Prim.Native.Nat.{ℕ, zero, suc, _-_, _*_, _≤_, _<_}
+use native.Mathlib.Omega.{arith}
+use mathlib.Core.Path.{_≡_, refl, sym, ap, _∙_}
+use mathlib.Core.Bool.{Bool, true, false, not, _&&_, _||_}
+use mathlib.Core.List.{List, [], _∷_, map, List·Memᴰ}
+use mathlib.Core.Logic.{_⊎_, inl, inr, _↔_}
+use mathlib.Core.Option.{Option, none, some}
+use lib.Dec.{T, eqb, ltb}
+use lib.ListN.{length, getD}
+use borrow.Author.Tests.{eqb-true, eqb-false, ltb-true, ltb-false, lt-ltb, le-ltb, eq-eqb, ne-eqb, not-true, not-false}
+use Rattle.lists.specs.Lists.{range, anyOf, Every, firstOf, refuseIf}
+use Rattle.lists.proofs.Tests.{is-true, is-false, of-true, of-false, not-both, and-both, both-and, or-fails, or-either, or-left, or-right}
+use Rattle.lists.proofs.Every.{every-member, every-map, every-each, every-range, every-below}
+use Rattle.lists.proofs.Orders.{Ordered, ordered-each, ordered-map, ordered-range, LeastFact, first-least}
+use Rattle.lists.proofs.Members.{member-range, member-map, member-each}
+use Rattle.lists.proofs.Passing.{any-cons, FirstFact, first-fact}
+use Rattle.hall.specs.Hall.{size, wrongSide, wrongGrid, wrongByte, wrongBytes, isOpen}
+use Rattle.hall.proofs.RightHall.{grid-right, bytes-right}
+use Rattle.job.specs.Job.{Job, Pair, wrongLimits, wrongCapacity, wrongCount, wrongEnds, firstWrong, share, pairs, firstShared}
+use Rattle.job.specs.Due.{RightGrid, RightBytes, RightLimits, RightCapacity, RightCount, OpenCell, RightEnds, Shares, RightJob, Due, due-0, due-1, due-2, due-3, due-4, due-5, due-6}
+use Rattle.job.specs.Verdict.{verdictTold, endsVerdict, sharedVerdict, judgeWith, judge, IsAccepted}
+use Rattle.job.specs.declared.Told.{Told}
+use Rattle.job.specs.declared.Verdict.{Verdict}
+use Rattle.job.specs.declared.Verdict.the-variants.{Accepted, WrongGrid, WrongBytes, WrongLimits, WrongCount, WrongEnds, SharedEnds}
+
+-- ---- each test fails exactly where its fact holds
+
+-- a test made of two
+both-fail : (a b : Bool) → a ≡ false → b ≡ false → (a || b) ≡ false
+both-fail a b e f = rw (e, f) refl
+
+not-fails : (b : Bool) → T b → not b ≡ false
+not-fails true t = refl
+not-fails false t = elim t [ ]
+
+side-fails : (n : ℕ) → 1 ≤ n → n ≤ 16 → wrongSide n ≡ false
+unfolding wrongSide
+side-fails n least most = both-fail (eqb n 0) (ltb 16 n) (ne-eqb n 0 (λ e. omega arith)) (le-ltb 16 n most)
+
+grid-exact : (job : Job) → (wrongGrid (job .hall) ≡ false) ↔ RightGrid job
+unfolding wrongGrid
+grid-exact job = (
+  λ e. let (w, h) = grid-right (job .hall) e in record { columns = w; rows = h },
+  λ r. both-fail (wrongSide (job .hall .width)) (wrongSide (job .hall .height)) (side-fails (job .hall .width) (r .columns .0) (r .columns .1)) (side-fails (job .hall .height) (r .rows .0) (r .rows .1)),
+)
+
+byte-known : (b : ℕ) → wrongByte b ≡ false → (b ≡ 46) ⊎ (b ≡ 35)
+unfolding wrongByte
+byte-known b e = go (or-either (eqb b 46) (eqb b 35) (of-true (not-false (eqb b 46 || eqb b 35) e)))
+  where
+    go : T (eqb b 46) ⊎ T (eqb b 35) → (b ≡ 46) ⊎ (b ≡ 35)
+    go (inl t) = inl (eqb-true b 46 (is-true t))
+    go (inr t) = inr (eqb-true b 35 (is-true t))
+
+known-byte : (b : ℕ) → (b ≡ 46) ⊎ (b ≡ 35) → wrongByte b ≡ false
+unfolding wrongByte
+known-byte b (inl e) = rw e refl
+known-byte b (inr e) = rw e refl
+
+-- no entry passes exactly where the test fails at each place
+fails-at : (p : ℕ → Bool) (xs : List ℕ) → anyOf p xs ≡ false → (i : ℕ) → i < length xs → p (getD xs i 0) ≡ false
+fails-at p [] e i l = absurd (omega arith)
+fails-at p (x ∷ xs) e zero l = or-fails (p x) (anyOf p xs) (sym (any-cons p x xs) ∙ e) .0
+fails-at p (x ∷ xs) e (suc i) l = fails-at p xs (or-fails (p x) (anyOf p xs) (sym (any-cons p x xs) ∙ e) .1) i (omega arith)
+
+at-fails : (p : ℕ → Bool) (xs : List ℕ) → ((i : ℕ) → i < length xs → p (getD xs i 0) ≡ false) → anyOf p xs ≡ false
+unfolding anyOf
+at-fails p [] h = refl
+at-fails p (x ∷ xs) h = any-cons p x xs ∙ both-fail (p x) (anyOf p xs) (h 0 (omega arith)) (at-fails p xs (λ i l. h (suc i) (omega arith)))
+
+bytes-exact : (job : Job) → (wrongBytes (job .hall) ≡ false) ↔ RightBytes job
+unfolding wrongBytes
+bytes-exact job =
+    let wrongLength : Bool = not (eqb (length (job .hall .bytes)) (size (job .hall))) in
+    let wrongOne : Bool = anyOf wrongByte (job .hall .bytes) in (
+      λ e. record {
+        all = bytes-right (job .hall) e;
+        known = λ v l. byte-known (getD (job .hall .bytes) v 0) (fails-at wrongByte (job .hall .bytes) (or-fails wrongLength wrongOne e .1) v l);
+      },
+      λ r. both-fail wrongLength wrongOne (rw (eq-eqb (length (job .hall .bytes)) (size (job .hall)) (r .all)) refl)
+          (at-fails wrongByte (job .hall .bytes) (λ v l. known-byte (getD (job .hall .bytes) v 0) (r .known v l))),
+    )
+
+limits-right : (job : Job) → wrongLimits job ≡ false → (job .delay ≤ 4) × (job .horizon ≤ 63)
+unfolding wrongLimits
+limits-right job e =
+    let (k, h) = or-fails (ltb 4 (job .delay)) (ltb 63 (job .horizon)) e in
+    (ltb-false 4 (job .delay) k, ltb-false 63 (job .horizon) h)
+
+limits-exact : (job : Job) → (wrongLimits job ≡ false) ↔ RightLimits job
+unfolding wrongLimits
+limits-exact job = (
+  λ e. let (k, h) = limits-right job e in record { delay = k; horizon = h },
+  λ r. both-fail (ltb 4 (job .delay)) (ltb 63 (job .horizon)) (le-ltb 4 (job .delay) (r .delay)) (le-ltb 63 (job .horizon) (r .horizon)),
+)
+
+pub capacity-exact : (n : ℕ) → (wrongCapacity n ≡ false) ↔ RightCapacity n
+unfolding wrongCapacity
+capacity-exact n = (
+  λ e. let (z, m) = or-fails (eqb n 0) (ltb 1024 n) e in
+      let some : n ≡ 0 → ⊥ = eqb-false n 0 z in
+      record { least = omega (arith, some); most = ltb-false 1024 n m },
+  λ r. both-fail (eqb n 0) (ltb 1024 n) (ne-eqb n 0 (λ e. omega (arith, r .least))) (le-ltb 1024 n (r .most)),
+)
+
+pub count-right : (job : Job) → wrongCount job ≡ false → (1 ≤ job .count) × (job .count ≤ 8)
+unfolding wrongCount
+count-right job e =
+    let (z, l) = or-fails (eqb (job .count) 0) (ltb 8 (job .count)) e in
+    let some : job .count ≡ 0 → ⊥ = eqb-false (job .count) 0 z in
+    let most : job .count ≤ 8 = ltb-false 8 (job .count) l in
+    omega (arith, some)
+
+count-exact : (job : Job) → (wrongCount job ≡ false) ↔ RightCount job
+unfolding wrongCount
+count-exact job = (
+  λ e. let (least, most) = count-right job e in record { least = least; most = most },
+  λ r. both-fail (eqb (job .count) 0) (ltb 8 (job .count)) (ne-eqb (job .count) 0 (λ e. omega (arith, r .least))) (le-ltb 8 (job .count) (r .most)),
+)
+
+pub open-exact : (job : Job) (v : ℕ) → T (isOpen (job .hall) v) ↔ OpenCell job v
+unfolding isOpen
+open-exact job v =
+    let inside : Bool = ltb v (size (job .hall)) in
+    let open46 : Bool = eqb (getD (job .hall .bytes) v 0) 46 in (
+      λ t. let (i, b) = and-both inside open46 t in record { inside = ltb-true v (size (job .hall)) (is-true i); byte = eqb-true (getD (job .hall .bytes) v 0) 46 (is-true b) },
+      λ c. both-and inside open46 (of-true (lt-ltb v (size (job .hall)) (c .inside))) (of-true (eq-eqb (getD (job .hall .bytes) v 0) 46 (c .byte))),
+    )
+
+ends-exact : (job : Job) (i : ℕ) → (wrongEnds job i ≡ false) ↔ RightEnds job i
+unfolding wrongEnds
+ends-exact job i =
+    let s : Bool = isOpen (job .hall) (job .startOf i) in
+    let g : Bool = isOpen (job .hall) (job .goalOf i) in (
+      λ e. let (a, b) = or-fails (not s) (not g) e in
+          record { start = open-exact job (job .startOf i) .0 (of-true (not-false s a)); goal = open-exact job (job .goalOf i) .0 (of-true (not-false g b)) },
+      λ r. both-fail (not s) (not g) (not-fails s (open-exact job (job .startOf i) .1 (r .start))) (not-fails g (open-exact job (job .goalOf i) .1 (r .goal))),
+    )
+
+shares-exact : (job : Job) (p : Pair) → T (share job p) ↔ Shares job (p .one) (p .two)
+unfolding share Shares
+shares-exact job p =
+    let s : Bool = eqb (job .startOf (p .one)) (job .startOf (p .two)) in
+    let g : Bool = eqb (job .goalOf (p .one)) (job .goalOf (p .two)) in (λ t. there (or-either s g t), back)
+  where
+    there : T (eqb (job .startOf (p .one)) (job .startOf (p .two))) ⊎ T (eqb (job .goalOf (p .one)) (job .goalOf (p .two))) → (job .startOf (p .one) ≡ job .startOf (p .two)) ⊎ (job .goalOf (p .one) ≡ job .goalOf (p .two))
+    there (inl t) = inl (eqb-true (job .startOf (p .one)) (job .startOf (p .two)) (is-true t))
+    there (inr t) = inr (eqb-true (job .goalOf (p .one)) (job .goalOf (p .two)) (is-true t))
+
+    back : (job .startOf (p .one) ≡ job .startOf (p .two)) ⊎ (job .goalOf (p .one) ≡ job .goalOf (p .two)) → T (eqb (job .startOf (p .one)) (job .startOf (p .two)) || eqb (job .goalOf (p .one)) (job .goalOf (p .two)))
+    back (inl e) = or-left (eqb (job .startOf (p .one)) (job .startOf (p .two))) (eqb (job .goalOf (p .one)) (job .goalOf (p .two))) (of-true (eq-eqb (job .startOf (p .one)) (job .startOf (p .two)) e))
+    back (inr e) = or-right (eqb (job .startOf (p .one)) (job .startOf (p .two))) (eqb (job .goalOf (p .one)) (job .goalOf (p .two))) (of-true (eq-eqb (job .goalOf (p .one)) (job .goalOf (p .two)) e))
+
+-- ---- the pairs, in their order
+
+abbrev pair : ℕ → ℕ → Pair
+pair i j = record { one = i; two = j }
+
+abbrev row : ℕ → ℕ → List Pair
+row m i = map (pair i) (range (suc i) (m - suc i))
+
+-- 'least i, then least j'
+abbrev NotAfter : Pair → Pair → Type 0
+NotAfter p q = (p .one ≤ q .one) × (p .one ≡ q .one → p .two ≤ q .two)
+
+pairs-ordered : (m : ℕ) → Ordered NotAfter (pairs m)
+unfolding pairs
+pairs-ordered m =
+    ordered-each NotAfter (row m) (range 0 m)
+    (every-below (λ i. Ordered NotAfter (row m i)) m
+    (λ i l. ordered-map NotAfter (pair i) (range (suc i) (m - suc i)) (ordered-range (λ a b. NotAfter (pair i a) (pair i b)) (suc i) (m - suc i) (λ a b low less high. (omega arith, λ e. omega arith)))))
+    (ordered-range (λ a b. Every (λ x. Every (NotAfter x) (row m b)) (row m a)) 0 m
+    (λ a b low less high.
+    every-map (λ x. Every (NotAfter x) (row m b)) (pair a) (range (suc a) (m - suc a))
+    (every-range (λ j. Every (NotAfter (pair a j)) (row m b)) (suc a) (m - suc a)
+    (λ j lo hi. every-map (NotAfter (pair a j)) (pair b) (range (suc b) (m - suc b)) (every-range (λ k. NotAfter (pair a j) (pair b k)) (suc b) (m - suc b) (λ k lo' hi'. (omega arith, λ e. absurd (omega arith))))))))
+
+pairs-have : (m i j : ℕ) → i < j → j < m → List·Memᴰ (record { one = i; two = j }) (pairs m)
+unfolding pairs
+pairs-have m i j l h =
+    member-each (λ a. map (λ b. record { one = a; two = b }) (range (suc a) (m - suc a))) (range 0 m)
+    (member-range {x = i} 0 m (omega arith) (omega arith))
+    (member-map (λ b. record { one = i; two = b }) (range (suc i) (m - suc i)) (member-range {x = j} (suc i) (m - suc i) (omega arith) (omega arith)))
+
+pairs-are : (m : ℕ) → Every (λ p. (p .one < p .two) × (p .two < m)) (pairs m)
+unfolding pairs
+pairs-are m =
+    every-each (λ p. (p .one < p .two) × (p .two < m)) (row m) (range 0 m)
+    (every-below (λ i. Every (λ p. (p .one < p .two) × (p .two < m)) (row m i)) m
+    (λ i l. every-map (λ p. (p .one < p .two) × (p .two < m)) (pair i) (range (suc i) (m - suc i)) (every-range (λ j. (i < j) × (j < m)) (suc i) (m - suc i) (λ j low high. (omega arith, omega arith)))))
+
+-- ---- the rows, in the order of their numbers
+
+module _ (wrongN : Bool) (N : Type 0) (exact : (wrongN ≡ false) ↔ N) (job : Job) where
+  limits-both : ((wrongLimits job || wrongN) ≡ false) ↔ (RightLimits job × N)
+  limits-both = (
+    λ e. let (l, n) = or-fails (wrongLimits job) wrongN e in (limits-exact job .0 l, exact .0 n),
+    λ r. both-fail (wrongLimits job) wrongN (limits-exact job .1 (r .0)) (exact .1 (r .1)),
+  )
+
+  abbrev AllEnds : Type 0
+  AllEnds = (i : ℕ) → i < job .count → RightEnds job i
+
+  shared-due : RightGrid job → RightBytes job → RightLimits job × N → RightCount job → AllEnds → (o : Option Pair)
+      → FirstFact (share job) (λ p. (p .one < p .two) × (p .two < job .count)) (pairs (job .count)) o → LeastFact (share job) NotAfter (pairs (job .count)) o → Due job N (verdictTold (sharedVerdict o))
+  unfolding sharedVerdict FirstFact LeastFact
+  shared-due grid bytes limits count ends none fact least =
+      due-0 (record {
+        grid = grid;
+        bytes = bytes;
+        limits = limits .0;
+        count = count;
+        ends = ends;
+        apart = λ i j l h s. every-member (λ p. T (share job p) → ⊥) (pairs (job .count)) fact (pairs-have (job .count) i j l h) (shares-exact job (pair i j) .1 s);
+      }) (limits .1)
+  shared-due grid bytes limits count ends (some p) fact least =
+      due-6 grid bytes limits count ends (p .one) (p .two) (fact .1 .0) (fact .1 .1) (shares-exact job p .0 (fact .0))
+      (λ a b l h s. every-member (λ q. T (share job q) → NotAfter p q) (pairs (job .count)) least (pairs-have (job .count) a b l h) (shares-exact job (pair a b) .1 s))
+
+  ends-due : RightGrid job → RightBytes job → RightLimits job × N → RightCount job → (o : Option ℕ)
+      → FirstFact (wrongEnds job) (λ i. i < job .count) (range 0 (job .count)) o → LeastFact (wrongEnds job) (λ i j. i ≤ j) (range 0 (job .count)) o → Due job N (verdictTold (endsVerdict o (sharedVerdict (firstShared job))))
+  unfolding endsVerdict firstShared FirstFact LeastFact
+  ends-due grid bytes limits count none fact least =
+      shared-due grid bytes limits count
+      (λ i l. ends-exact job i .0 (is-false (every-member (λ i. T (wrongEnds job i) → ⊥) (range 0 (job .count)) fact (member-range {x = i} 0 (job .count) (omega arith) (omega arith)))))
+      (firstShared job)
+      (first-fact (share job) (λ p. (p .one < p .two) × (p .two < job .count)) (pairs (job .count)) (pairs-are (job .count)))
+      (first-least (share job) NotAfter (λ p. (omega arith, λ e. omega arith)) (pairs (job .count)) (pairs-ordered (job .count)))
+  ends-due grid bytes limits count (some i) fact least =
+      due-5 grid bytes limits count i (fact .1) (λ r. of-false (ends-exact job i .1 r) (fact .0))
+      (λ j l. ends-exact job j .0
+      (is-false (λ t. let k : i ≤ j = every-member (λ j. T (wrongEnds job j) → i ≤ j) (range 0 (job .count)) least (member-range {x = j} 0 (job .count) (omega arith) (omega (arith, fact .1))) t in omega arith)))
+
+  abbrev fromEnds : Verdict
+  fromEnds = endsVerdict (firstWrong job) (sharedVerdict (firstShared job))
+
+  count-due : RightGrid job → RightBytes job → RightLimits job × N → (b : Bool) → wrongCount job ≡ b → Due job N (verdictTold (refuseIf b WrongCount fromEnds))
+  unfolding refuseIf firstWrong
+  count-due grid bytes limits true e = due-4 grid bytes limits (λ r. not-both e (count-exact job .1 r))
+  count-due grid bytes limits false e =
+      ends-due grid bytes limits (count-exact job .0 e) (firstWrong job)
+      (first-fact (wrongEnds job) (λ i. i < job .count) (range 0 (job .count)) (every-below (λ i. i < job .count) (job .count) (λ i l. l)))
+      (first-least (wrongEnds job) (λ i j. i ≤ j) (λ i. omega arith) (range 0 (job .count)) (ordered-range (λ i j. i ≤ j) 0 (job .count) (λ i j low less high. omega arith)))
+
+  limits-due : RightGrid job → RightBytes job → (b : Bool) → (wrongLimits job || wrongN) ≡ b → Due job N (verdictTold (refuseIf b WrongLimits (refuseIf (wrongCount job) WrongCount fromEnds)))
+  unfolding refuseIf
+  limits-due grid bytes true e = due-3 grid bytes (λ r. not-both e (limits-both .1 r))
+  limits-due grid bytes false e = count-due grid bytes (limits-both .0 e) (wrongCount job) refl
+
+  bytes-due : RightGrid job → (b : Bool) → wrongBytes (job .hall) ≡ b → Due job N (verdictTold (refuseIf b WrongBytes (refuseIf (wrongLimits job || wrongN) WrongLimits (refuseIf (wrongCount job) WrongCount fromEnds))))
+  unfolding refuseIf
+  bytes-due grid true e = due-2 grid (λ r. not-both e (bytes-exact job .1 r))
+  bytes-due grid false e = limits-due grid (bytes-exact job .0 e) (wrongLimits job || wrongN) refl
+
+  -- the number that is given is the number that is due
+  pub judged-due : Due job N (verdictTold (judgeWith wrongN job))
+  unfolding judgeWith refuseIf
+  judged-due = go (wrongGrid (job .hall)) refl
+    where
+      go : (b : Bool) → wrongGrid (job .hall) ≡ b → Due job N (verdictTold (refuseIf b WrongGrid (refuseIf (wrongBytes (job .hall)) WrongBytes (refuseIf (wrongLimits job || wrongN) WrongLimits (refuseIf (wrongCount job) WrongCount fromEnds)))))
+      go true e = due-1 (λ r. not-both e (grid-exact job .1 r))
+      go false e = bytes-due (grid-exact job .0 e) (wrongBytes (job .hall)) refl
+
+  -- ---- what is accepted
+
+  zero-right : (told : Told) → Due job N told → told .number ≡ 0 → RightJob job × N
+  zero-right told (due-1 w) e = absurd (omega arith)
+  zero-right told (due-2 g w) e = absurd (omega arith)
+  zero-right told (due-3 g b w) e = absurd (omega arith)
+  zero-right told (due-4 g b l w) e = absurd (omega arith)
+  zero-right told (due-5 g b l c i h w first) e = absurd (omega arith)
+  zero-right told (due-6 g b l c ends i j h below s first) e = absurd (omega arith)
+  zero-right told (due-0 r n) e = (r, n)
+
+  right-zero : (told : Told) → Due job N told → RightJob job × N → told .number ≡ 0
+  right-zero told (due-1 w) r = absurd (w (r .0 .grid))
+  right-zero told (due-2 g w) r = absurd (w (r .0 .bytes))
+  right-zero told (due-3 g b w) r = absurd (w (r .0 .limits, r .1))
+  right-zero told (due-4 g b l w) r = absurd (w (r .0 .count))
+  right-zero told (due-5 g b l c i h w first) r = absurd (w (r .0 .ends i h))
+  right-zero told (due-6 g b l c ends i j h below s first) r = absurd (r .0 .apart i j h below s)
+  right-zero told (due-0 q n) r = refl
+
+  -- only an accepted job is given 0
+  only-accepted : (v : Verdict) → verdictTold v .number ≡ 0 → v ≡ Accepted
+  only-accepted Accepted e = refl
+  only-accepted WrongGrid e = absurd (omega arith)
+  only-accepted WrongBytes e = absurd (omega arith)
+  only-accepted WrongLimits e = absurd (omega arith)
+  only-accepted WrongCount e = absurd (omega arith)
+  only-accepted (WrongEnds i) e = absurd (omega arith)
+  only-accepted (SharedEnds i j) e = absurd (omega arith)
+
+  pub accepted-right : (judgeWith wrongN job ≡ Accepted) ↔ (RightJob job × N)
+  accepted-right = (
+    λ e. zero-right (verdictTold (judgeWith wrongN job)) judged-due (ap (λ (v : Verdict). verdictTold v .number) e),
+    λ r. only-accepted (judgeWith wrongN job) (right-zero (verdictTold (judgeWith wrongN job)) judged-due r),
+  )
+
+-- the planner's job, and that of the two checks
+pub accepted-exactly : (job : Job) (n : ℕ) → (judgeWith (wrongCapacity n) job ≡ Accepted) ↔ (RightJob job × RightCapacity n)
+accepted-exactly job n = accepted-right (wrongCapacity n) (RightCapacity n) (capacity-exact n) job
+
+pub checks-accept-exactly : (job : Job) → IsAccepted job ↔ RightJob job
+unfolding judge
+checks-accept-exactly job =
+    let exact : (judgeWith false job ≡ Accepted) ↔ (RightJob job × Unit {0}) = accepted-right false (Unit {0}) (λ e. tt, λ u. refl) job in
+    (λ e. exact .0 e .0, λ r. exact .1 (r, tt))
+
+-- and the number that each gives
+pub planner-due : (job : Job) (n : ℕ) → Due job (RightCapacity n) (verdictTold (judgeWith (wrongCapacity n) job))
+planner-due job n = judged-due (wrongCapacity n) (RightCapacity n) (capacity-exact n) job
+
+pub check-due : (job : Job) → Due job (Unit {0}) (verdictTold (judge job))
+unfolding judge
+check-due job = judged-due false (Unit {0}) (λ e. tt, λ u. refl) job

@@ -1,0 +1,70 @@
+-- Document 01, 'The floor and the job' and rows 0 to 6 of 'Numbers given back', in plain numbers: what makes a job right, check by
+-- check, and which number is due. The law `judged-due` proves it of what `judgeWith` gives, `accepted-exactly` of what it accepts.
+use Prim.Native.Nat.{ℕ, _*_, _≤_, _<_}
+use mathlib.Core.Path.{_≡_}
+use mathlib.Core.Logic.{_⊎_}
+use lib.ListN.{length, getD}
+use Rattle.job.specs.Job.{Job}
+use Rattle.job.specs.Told.{bare, named}
+use Rattle.job.specs.declared.Told.{Told}
+
+-- 'A hall is a grid of 1 to 16 columns (width) by 1 to 16 rows (height).'
+pub record RightGrid (job : Job) : Type 0 where
+  pub columns : (1 ≤ job .hall .width) × (job .hall .width ≤ 16)
+  pub rows : (1 ≤ job .hall .height) × (job .hall .height ≤ 16)
+
+-- 'width × height bytes'; 'a hall byte is 46 ('.', open) or 35 ('#', closed)'
+pub record RightBytes (job : Job) : Type 0 where
+  pub all : length (job .hall .bytes) ≡ job .hall .width * job .hall .height
+  pub known : (v : ℕ) → v < length (job .hall .bytes) → (getD (job .hall .bytes) v 0 ≡ 46) ⊎ (getD (job .hall .bytes) v 0 ≡ 35)
+
+-- 'the delay bound k (0 to 4), the horizon H (0 to 63)'
+pub record RightLimits (job : Job) : Type 0 where
+  pub delay : job .delay ≤ 4
+  pub horizon : job .horizon ≤ 63
+
+-- 'the capacity N (1 to 1,024 records)'
+pub record RightCapacity (n : ℕ) : Type 0 where
+  pub least : 1 ≤ n
+  pub most : n ≤ 1024
+
+-- 'There are 1 to 8 carriers.'
+pub record RightCount (job : Job) : Type 0 where
+  pub least : 1 ≤ job .count
+  pub most : job .count ≤ 8
+
+-- a cell of the grid that is open
+pub record OpenCell (job : Job) (v : ℕ) : Type 0 where
+  pub inside : v < job .hall .width * job .hall .height
+  pub byte : getD (job .hall .bytes) v 0 ≡ 46
+
+pub record RightEnds (job : Job) (i : ℕ) : Type 0 where
+  pub start : OpenCell job (job .startOf i)
+  pub goal : OpenCell job (job .goalOf i)
+
+-- 'two carriers share a start, or share a goal'
+unfoldable pub Shares : Job → ℕ → ℕ → Type 0
+Shares job i j = (job .startOf i ≡ job .startOf j) ⊎ (job .goalOf i ≡ job .goalOf j)
+
+-- a job that passes checks 1 to 6, but for N
+pub record RightJob (job : Job) : Type 0 where
+  pub grid : RightGrid job
+  pub bytes : RightBytes job
+  pub limits : RightLimits job
+  pub count : RightCount job
+  pub ends : (i : ℕ) → i < job .count → RightEnds job i
+  pub apart : (i j : ℕ) → i < j → j < job .count → Shares job i j → ⊥
+
+-- Rows 0 to 6: 'If several apply, the lowest number is given.' `N` is that the capacity is right, where the check looks at one. Told
+-- are for 5 the 'first such carrier', for 6 'least i, then least j, i < j'.
+pub data Due (job : Job) (N : Type 0) : Told → Type 0 where
+  due-1 : (RightGrid job → ⊥) → Due job N (bare 1)
+  due-2 : RightGrid job → (RightBytes job → ⊥) → Due job N (bare 2)
+  due-3 : RightGrid job → RightBytes job → (RightLimits job × N → ⊥) → Due job N (bare 3)
+  due-4 : RightGrid job → RightBytes job → RightLimits job × N → (RightCount job → ⊥) → Due job N (bare 4)
+  due-5 : RightGrid job → RightBytes job → RightLimits job × N → RightCount job
+      → (i : ℕ) → i < job .count → (RightEnds job i → ⊥) → ((j : ℕ) → j < i → RightEnds job j) → Due job N (named 5 i 0)
+  due-6 : RightGrid job → RightBytes job → RightLimits job × N → RightCount job → ((i : ℕ) → i < job .count → RightEnds job i)
+      → (i j : ℕ) → i < j → j < job .count → Shares job i j
+      → ((a b : ℕ) → a < b → b < job .count → Shares job a b → (i ≤ a) × (i ≡ a → j ≤ b)) → Due job N (named 6 i j)
+  due-0 : RightJob job → N → Due job N (bare 0)
