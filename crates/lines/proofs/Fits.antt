@@ -25,6 +25,7 @@ use Rattle.book.specs.declared.BookVerdict.{BookVerdict}
 use Rattle.book.specs.declared.BookVerdict.the-variants.{Good, NoContents, WrongKinds, WrongBodies, WrongLengths, NoKind}
 use Rattle.tree.specs.Plan.{routeOf}
 use Rattle.tables.specs.Tables.{Tables}
+use Rattle.tables.proofs.Held.{route-held}
 use Rattle.planner.specs.Answer.{planned, answerTold}
 use Rattle.text.specs.Text.{Page, digits}
 use Rattle.text.proofs.Lengths.{three-digits, four-digits}
@@ -32,7 +33,6 @@ use Rattle.text.proofs.TextLaws.{put-whole}
 use Rattle.lines.specs.Lines.{answerWord, sumWord, recordsWord, carrierWord, space, numberLine, pairLine, cellsText, costLine, carrierLine, carrierLines, planText, restText, toldText}
 use Rattle.lines.specs.Printed.{teamIn, jobIn, resultText, bookText, bookTables, Printed}
 use Rattle.lines.proofs.Answers.{cost-within, zero-found, told-small}
-use Rattle.lines.proofs.Held.{route-held}
 use Rattle.lines.proofs.Small.{Small}
 
 -- ---- a line

@@ -14,6 +14,7 @@ use Rattle.routes.specs.Route.{Lawful, cost, routeIn}
 use Rattle.tree.specs.Plan.{Routes, routeOf, total, Family}
 use Rattle.tree.specs.Promises.{LeastPlan}
 use Rattle.tables.specs.Tables.{Tables, planWritten}
+use Rattle.tables.proofs.Held.{route-held}
 use Rattle.book.specs.Book.{bookVerdict, ifGood, bodyOf}
 use Rattle.book.specs.Parts.{horizonIn}
 use Rattle.book.specs.declared.BookVerdict.the-variants.{Good}
@@ -23,7 +24,6 @@ use Rattle.planner.specs.declared.Answer.the-variants.{Plan}
 use Rattle.lines.specs.Lines.{answerWord, sumWord, recordsWord, numberLine, carrierLine, carrierLines, planText, restText, toldText}
 use Rattle.lines.specs.Printed.{teamIn, jobIn, resultText, bookText}
 use Rattle.lines.proofs.Answers.{cost-within, zero-found}
-use Rattle.lines.proofs.Held.{route-held}
 
 -- the cells shown are those of the steps 0 to the cost, and none is wanting
 pub shown-to-cost : (job : Job) (i : ℕ) (r : List ℕ) → Lawful job i r → length (take (cost (job .goalOf i) r + 1) r) ≡ cost (job .goalOf i) r + 1

@@ -1,5 +1,6 @@
 pub mod Costs
 pub mod Grown
+pub mod Held
 pub mod Live
 pub mod LongTables
 pub mod Records
