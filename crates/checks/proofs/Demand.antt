@@ -62,7 +62,7 @@ module _ (job : Job) (plan : List ℕ) (long : planLength job ≤ length plan) (
   unfolding routeIn
   route-length = simp (length-take, length-drop) (omega (arith, within))
 
-  route-cell : (t : ℕ) → t ≤ job .horizon → cellOf (routeIn (job .horizon) plan i) t ≡ planCell job plan i t
+  pub route-cell : (t : ℕ) → t ≤ job .horizon → cellOf (routeIn (job .horizon) plan i) t ≡ planCell job plan i t
   unfolding routeIn
   route-cell t l = getD-take rows (drop (i * rows) plan) t 0 (omega arith) ∙ getD-drop (i * rows) plan t 0
 

@@ -64,7 +64,7 @@ answer-small job n ts (Plan s r) after (rs, least, written, few, need) k =
     counted-small 0 s r (omega arith) (omega (arith, least .told, total-small job n k rs (least .plan .family))) (records-small job n k r few)
 answer-small job n ts (Refused v) after p k = subst SmallVerdict (sym (k .0)) (judged-small (wrongCapacity n) job)
 answer-small job n ts Short after p k = bare-small 7 (omega arith)
-answer-small job n ts (NoPlan r) after p k = counted-small 8 0 r (omega arith) (omega arith) (records-small job n k r (p .1 .0))
+answer-small job n ts (NoPlan r) after p k = counted-small 8 0 r (omega arith) (omega arith) (records-small job n k r (p .1))
 answer-small job n ts (Full r) after p k = counted-small 9 0 r (omega arith) (omega arith) (records-small job n k r (omega (arith, p .0)))
 
 pub told-small : (job : Job) (n : ℕ) (ts : Tables) → Small (answerTold (planned job n ts .answer))

@@ -1,5 +1,4 @@
 pub mod Answers
-pub mod Broken
 pub mod Cells
 pub mod Children
 pub mod Known

@@ -31,7 +31,7 @@ module _ (job : Job) (capacity : ℕ) (ts : Tables) (one : 1 ≤ capacity) where
       go (yes l) =
           let f : tree job capacity ≡ done (tree-need job .end) (tree-need job .need) = tree-need job .is .enough capacity one l in
           let g : r ≡ tree-need job .need = cc (e, f) in
-          (omega arith, tree-need job .end, subst (λ (n : ℕ). NeedIs job n (tree-need job .end)) (sym g) (tree-need job .is))
+          (omega arith, (tree-need job .end, subst (λ (n : ℕ). NeedIs job n (tree-need job .end)) (sym g) (tree-need job .is)))
       go (no l) =
           let f : tree job capacity ≡ full capacity = tree-need job .is .short capacity one (omega (arith, l)) in
           absurd (let z : _≡_ {A = ℕ} 0 1 = cc (e, f) in omega arith)
@@ -48,12 +48,12 @@ module _ (job : Job) (capacity : ℕ) (ts : Tables) (one : 1 ≤ capacity) where
           let less : capacity < tree-need job .need = omega (arith, l) in
           let f : tree job capacity ≡ full capacity = tree-need job .is .short capacity one less in
           let g : r ≡ capacity = cc (e, f) in
-          (g, tree-need job .need, less, tree-need job .end, tree-need job .is)
+          (g, tree-need job .need, less, (tree-need job .end, tree-need job .is))
 
   searched-kept : (o : Outcome Node) → tree job capacity ≡ o → Kept job capacity ts (searched job capacity ts o)
   unfolding searched Promised withPlan workedOn
-  searched-kept (done (some n) r) e = (n .routes, tree-least job capacity one n r e, refl, ended (some n) r e)
-  searched-kept (done none r) e = (tree-none job capacity one r e, ended none r e)
+  searched-kept (done (some n) r) e = let (few, need) = ended (some n) r e in (n .routes, tree-least job capacity one n r e, refl, few, need)
+  searched-kept (done none r) e = let (few, need) = ended none r e in (tree-none job capacity one r e, few, need)
   searched-kept (full r) e = short-of r e
 
   enough-kept : Kept job capacity ts (enough job capacity ts)

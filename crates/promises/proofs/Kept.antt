@@ -1,41 +1,42 @@
--- Each promise of specs/Promises.antt, kept: by the contracts alone, which equate answer and tables with document 01's definitions and
--- beside them state least, none and need. Assumes nothing.
+-- Each promise of specs/Promises.antt, kept by our planner and our checks: by their contracts alone, which equate answer and tables with
+-- document 01's definitions and beside them state least, none and need. Assumes nothing.
 use Prim.Native.Nat.{ℕ, _≤_, _<_}
 use native.Mathlib.Omega.{arith}
 use native.Mathlib.Decide.{decLe}
 use mathlib.Core.Path.{_≡_, refl, sym, ap, subst, _∙_}
-use mathlib.Core.Bool.{true, false}
-use mathlib.Core.Logic.{_⊎_, inl, inr}
-use mathlib.Core.Option.{Option, none, some}
+use mathlib.Core.Bool.{Bool, true, false}
+use mathlib.Core.List.{List}
+use mathlib.Core.Logic.{_⊎_, inl, inr, _↔_}
+use mathlib.Core.Option.{Option, none, some, Option·some-ne-none}
 use Rattle.job.specs.Job.{Job, wrongCapacity}
-use Rattle.job.specs.Verdict.{judgeWith, ifAccepted}
+use Rattle.job.specs.Due.{RightJob, RightCapacity, Due}
+use Rattle.job.specs.Told.{bare, refusal}
+use Rattle.job.specs.Verdict.{judgeWith, judge, verdictTold, ifAccepted, IsAccepted}
+use Rattle.job.specs.declared.Fault.{Fault}
+use Rattle.job.specs.declared.Told.{Told}
 use Rattle.job.specs.declared.Verdict.{Verdict}
 use Rattle.job.specs.declared.Verdict.the-variants.{Accepted, WrongGrid, WrongBytes, WrongLimits, WrongCount, WrongEnds, SharedEnds}
-use Rattle.job.proofs.Accepted.{accepted-facts}
-use Rattle.checks.proofs.PlanCheck.{both-zero-exact, both-zero-safe}
+use Rattle.job.proofs.Due.{accepted-exactly as exactly, checks-accept-exactly as checks-exactly, planner-due}
+use Rattle.checks.specs.Demand.{LawfulRoutes, Passes, Safe}
+use Rattle.checks.proofs.Demand.{plan-check-exact, zero-is-safe}
 use Rattle.search.specs.Search.{Outcome, done, full}
 use Rattle.tree.specs.Plan.{Routes}
 use Rattle.tree.specs.Tree.{Node, tree}
 use Rattle.tree.specs.Promises.{NoneExists}
 use Rattle.tree.proofs.Promises.{tree-need}
-use Rattle.tables.specs.Tables.{Tables, shortTable, workedOn, planWritten, withPlan}
+use Rattle.tables.specs.Tables.{Tables, shortTable, LongTables, workedOn, planWritten, withPlan}
+use Rattle.tables.proofs.LongTables.{long-exact}
 use Rattle.planner.specs.Answer.{answerTold, Result, searched, enough, planned}
 use Rattle.planner.specs.Promises.{Promised}
 use Rattle.planner.specs.Post.{Planned}
 use Rattle.planner.specs.declared.Answer.{Answer}
 use Rattle.planner.specs.declared.Answer.the-variants.{Plan, Refused, Short, NoPlan, Full}
 use Rattle.planner.proofs.Known.{Known, known}
-use Rattle.planner.proofs.Promises.{one-record}
-use Rattle.planner.proofs.Settled.{plan-settled}
-use Rattle.lines.proofs.Fits.{page-whole as whole}
-use Rattle.lines.proofs.Whole.{plan-printed as printed}
-use Rattle.promises.specs.Promises.{numberOf, Runs, AlwaysNumbered, RefusesFirst, ShortIsSeven, Left, TablesLeft, NothingElse, ZeroIsLeast, EightIsNone, ByNeed, NineByNeed, MoreAltersNothing, CheckIsExact, PassIsSafe, PageWhole, PlanPrinted}
+use Rattle.promises.specs.Promises.{Runs, AcceptedExactly, ChecksAcceptExactly, AlwaysNumbered, RefusesFirst, ShortIsSeven, Left, TablesLeft, NothingElse, PlanGiven, ZeroIsLeast, EightIsNone, ByNeed, NineByNeed, MoreAltersNothing, SafeGiven, LeastOfTheSafe, CheckIsExact, PassIsSafe, OutputPasses}
+use Rattle.promises.specs.Ours.{OurPlanner, OurRoutes, OurMeetings}
+use Rattle.promises.proofs.Passing.{written-passes}
 
 -- ---- what the definitions give
-
--- what its number tells of the job
-known-of : (job : Job) (n : ℕ) (before : Tables) (r : Answer) (after : Tables) → Planned job n before r after → Known job n before r
-known-of job n before r after p = subst (Known job n before) (sym (p .told)) (known job n before)
 
 refused : (v : Verdict) (go : Result) (stop : Result) → (v ≡ Accepted → ⊥) → ifAccepted v go stop ≡ stop
 unfolding ifAccepted
@@ -47,120 +48,199 @@ refused WrongCount go stop n = refl
 refused (WrongEnds i) go stop n = refl
 refused (SharedEnds i j) go stop n = refl
 
+-- a result of the definitions, as it is seen
+record Seen (result : Result) (told : Told) (after : Tables) : Type 0 where
+  tells : told ≡ answerTold (result .answer)
+  leaves : after ≡ result .tables
+
 module _ (job : Job) (n : ℕ) (before : Tables) where
   planned-refused : (judgeWith (wrongCapacity n) job ≡ Accepted → ⊥) → planned job n before ≡ record { answer = Refused (judgeWith (wrongCapacity n) job); tables = before }
   unfolding planned
   planned-refused k = refused (judgeWith (wrongCapacity n) job) (enough job n before) (record { answer = Refused (judgeWith (wrongCapacity n) job); tables = before }) k
 
-  planned-accepted : judgeWith (wrongCapacity n) job ≡ Accepted → planned job n before ≡ enough job n before
+  planned-accepted : RightJob job → RightCapacity n → planned job n before ≡ enough job n before
   unfolding planned ifAccepted
-  planned-accepted e = ap (λ v. ifAccepted v (enough job n before) (record { answer = Refused v; tables = before })) e
+  planned-accepted right capacity = ap (λ v. ifAccepted v (enough job n before) (record { answer = Refused v; tables = before })) (exactly job n .1 (right, capacity))
 
-  enough-short : shortTable job n before ≡ true → enough job n before ≡ record { answer = Short; tables = before }
+  enough-short : (LongTables job n before → ⊥) → enough job n before ≡ record { answer = Short; tables = before }
   unfolding enough
-  enough-short e = rw (enough, e)
+  enough-short short = go (shortTable job n before) refl
+    where
+      go : (b : Bool) → shortTable job n before ≡ b → _≡_ {A = Result} (elim b [ true ↦ record { answer = Short; tables = before } | false ↦ searched job n before (tree job n) ]) (record { answer = Short; tables = before })
+      go true e = refl
+      go false e = absurd (short (long-exact job n before .0 e))
 
-  enough-long : shortTable job n before ≡ false → enough job n before ≡ searched job n before (tree job n)
+  enough-long : LongTables job n before → enough job n before ≡ searched job n before (tree job n)
   unfolding enough
-  enough-long e = rw (enough, e)
+  enough-long l = rw (enough, long-exact job n before .1 l)
 
-  -- a job that runs is searched
-  searched-is : Runs job n before → planned job n before ≡ searched job n before (tree job n)
-  searched-is runs = planned-accepted (runs .accepted) ∙ enough-long (runs .long)
+  module _ (told : Told) (after : Tables) (p : OurPlanner job n before told after) where
+    ours : Seen (planned job n before) told after
+    ours = record { tells = p .is ∙ ap answerTold (p .planned .told); leaves = p .planned .tables }
 
-  some-records : Runs job n before → 1 ≤ n
-  some-records runs = one-record n (accepted-facts (wrongCapacity n) job (runs .accepted) .capacity)
+    -- where the definitions give a result, ours tells and leaves it
+    seen : (result : Result) → planned job n before ≡ result → Seen result told after
+    seen result e = subst (λ x. Seen x told after) e ours
+
+    -- a job that runs is searched
+    seen-end : (o : Outcome Node) → Runs job n before → tree job n ≡ o → Seen (searched job n before o) told after
+    seen-end o runs e = seen (searched job n before o) (planned-accepted (runs .right) (runs .capacity) ∙ enough-long (runs .long) ∙ ap (searched job n before) e)
+
+    -- what its number tells of the job
+    known-of : Known job n before (p .answer)
+    known-of = subst (Known job n before) (sym (p .planned .told)) (known job n before)
+
+-- ---- what is accepted
+
+pub accepted-exactly : AcceptedExactly
+unfolding AcceptedExactly
+accepted-exactly = exactly
+
+pub checks-accept-exactly : ChecksAcceptExactly
+unfolding ChecksAcceptExactly
+checks-accept-exactly = checks-exactly
 
 -- ---- 1
 
-pub always-numbered : AlwaysNumbered
-unfolding AlwaysNumbered Known
-always-numbered job n before (Plan s k) after p = omega arith
-always-numbered job n before (Refused v) after p = let k = known-of job n before (Refused v) after p in omega (arith, k .2)
-always-numbered job n before Short after p = omega arith
-always-numbered job n before (NoPlan k) after p = omega arith
-always-numbered job n before (Full k) after p = omega arith
+numbered : (job : Job) (n : ℕ) (before : Tables) (r : Answer) → Known job n before r → answerTold r .number ≤ 9
+unfolding Known
+numbered job n before (Plan s k) f = omega arith
+numbered job n before (Refused v) f = omega (arith, f .2)
+numbered job n before Short f = omega arith
+numbered job n before (NoPlan k) f = omega arith
+numbered job n before (Full k) f = omega arith
 
-pub refuses-first : RefusesFirst
+pub always-numbered : AlwaysNumbered OurPlanner
+unfolding AlwaysNumbered
+always-numbered job n before told after p =
+    let k : answerTold (p .answer) .number ≤ 9 = numbered job n before (p .answer) (known-of job n before told after p) in
+    let e : told .number ≡ answerTold (p .answer) .number = ap (λ (t : Told). t .number) (p .is) in
+    omega (arith, k, e)
+
+pub refuses-first : RefusesFirst OurPlanner
 unfolding RefusesFirst
-refuses-first job n before r after p k =
-    let e = planned-refused job n before k in
-    (p .told ∙ ap (λ x. x .answer) e, p .tables ∙ ap (λ x. x .tables) e)
+refuses-first job n before told after p wrong =
+    let s = seen job n before told after p (record { answer = Refused (judgeWith (wrongCapacity n) job); tables = before }) (planned-refused job n before (λ e. wrong (exactly job n .0 e))) in
+    (subst (Due job (RightCapacity n)) (sym (s .tells)) (planner-due job n), s .tells, s .leaves)
 
-pub short-is-seven : ShortIsSeven
+pub short-is-seven : ShortIsSeven OurPlanner
 unfolding ShortIsSeven
-short-is-seven job n before r after p a s =
-    let e = planned-accepted job n before a ∙ enough-short job n before s in
-    (p .told ∙ ap (λ x. x .answer) e, p .tables ∙ ap (λ x. x .tables) e)
+short-is-seven job n before told after p right capacity short =
+    let s = seen job n before told after p (record { answer = Short; tables = before }) (planned-accepted job n before right capacity ∙ enough-short job n before short) in
+    (s .tells, s .leaves)
 
-left-by : (job : Job) (n : ℕ) (before : Tables) (o : Outcome Node) → Left job n before (searched job n before o .answer) (searched job n before o .tables)
+left-by : (job : Job) (n : ℕ) (before : Tables) (o : Outcome Node) → Left job n before (answerTold (searched job n before o .answer)) (searched job n before o .tables)
 unfolding searched withPlan workedOn
 left-by job n before (done (some x) k) = record { number = inl refl; columns = refl; plans = refl; layers = refl; output = inl refl }
 left-by job n before (done none k) = record { number = inr (inl refl); columns = refl; plans = refl; layers = refl; output = inr refl }
 left-by job n before (full k) = record { number = inr (inr refl); columns = refl; plans = refl; layers = refl; output = inr refl }
 
-pub tables-left : TablesLeft
+pub tables-left : TablesLeft OurPlanner
 unfolding TablesLeft
-tables-left job n before r after p runs =
-    let e = searched-is job n before runs in
-    subst (λ x. Left job n before x after) (sym (p .told ∙ ap (λ x. x .answer) e))
-    (subst (λ x. Left job n before (searched job n before (tree job n) .answer) x) (sym (p .tables ∙ ap (λ x. x .tables) e)) (left-by job n before (tree job n)))
+tables-left job n before told after p runs =
+    let s = seen-end job n before told after p (tree job n) runs refl in
+    rw (s .tells, s .leaves) (left-by job n before (tree job n))
 
-pub nothing-else : NothingElse
+pub nothing-else : NothingElse OurPlanner
 unfolding NothingElse
-nothing-else = plan-settled
+nothing-else job n before told told′ after after′ p p′ =
+    let s = ours job n before told after p in
+    let s′ = ours job n before told′ after′ p′ in
+    (s .tells ∙ sym (s′ .tells), s .leaves ∙ sym (s′ .leaves))
 
 -- ---- 2
 
-pub zero-is-least : ZeroIsLeast
-unfolding ZeroIsLeast Promised Known
-zero-is-least job n before (Plan s k) after p e =
-    let (rs, least, written, few) = p .promised in
-    (rs, record { written = written; plan = least .plan; sum = least .told; least = least .least; safe = least .safe; least-safe = least .least-safe })
-zero-is-least job n before (Refused v) after p e = absurd (let k = known-of job n before (Refused v) after p in omega (arith, k .1))
-zero-is-least job n before Short after p e = absurd (omega arith)
-zero-is-least job n before (NoPlan k) after p e = absurd (omega arith)
-zero-is-least job n before (Full k) after p e = absurd (omega arith)
+module _ (job : Job) (n : ℕ) (before : Tables) (told : Told) (after : Tables) (p : OurPlanner job n before told after) where
+  -- the number is told by the answer
+  number-is : (k : ℕ) → told .number ≡ k → answerTold (p .answer) .number ≡ k
+  number-is k e = ap (λ (t : Told). t .number) (sym (p .is)) ∙ e
 
-pub eight-is-none : EightIsNone
-unfolding EightIsNone Promised NoneExists Known
-eight-is-none job n before (Plan s k) after p e = absurd (omega arith)
-eight-is-none job n before (Refused v) after p e = absurd (let k = known-of job n before (Refused v) after p in omega (arith, k .2))
-eight-is-none job n before Short after p e = absurd (omega arith)
-eight-is-none job n before (NoPlan k) after p e = p .promised .0
-eight-is-none job n before (Full k) after p e = absurd (omega arith)
+  planned-zero : (r : Answer) → Known job n before r → Promised job n before r after → answerTold r .number ≡ 0 → (rs : Routes) × PlanGiven job before (answerTold r) after rs × SafeGiven job before (answerTold r) after rs
+  unfolding Known Promised
+  planned-zero (Plan s k) f (rs, least, written, few, need) e = (
+    rs,
+    record { written = written; plan = least .plan; sum = least .told; least = least .least },
+    record { written = written; safe = least .safe; sum = least .told; least = least .least-safe },
+  )
+  planned-zero (Refused v) f q e = absurd (omega (arith, f .1))
+  planned-zero Short f q e = absurd (omega arith)
+  planned-zero (NoPlan k) f q e = absurd (omega arith)
+  planned-zero (Full k) f q e = absurd (omega arith)
+
+  zero-given : told .number ≡ 0 → (rs : Routes) × PlanGiven job before told after rs × SafeGiven job before told after rs
+  zero-given e = rw (p .is) (planned-zero (p .answer) (known-of job n before told after p) (p .planned .promised) (number-is 0 e))
+
+  -- and only for a right job
+  zero-right : (r : Answer) → Known job n before r → answerTold r .number ≡ 0 → RightJob job
+  unfolding Known
+  zero-right (Plan s k) f e = exactly job n .0 f .0
+  zero-right (Refused v) f e = absurd (omega (arith, f .1))
+  zero-right Short f e = absurd (omega arith)
+  zero-right (NoPlan k) f e = absurd (omega arith)
+  zero-right (Full k) f e = absurd (omega arith)
+
+  right-given : told .number ≡ 0 → RightJob job
+  right-given e = zero-right (p .answer) (known-of job n before told after p) (number-is 0 e)
+
+  none-given : (r : Answer) → Known job n before r → Promised job n before r after → answerTold r .number ≡ 8 → NoneExists job
+  unfolding Known Promised
+  none-given (Plan s k) f q e = absurd (omega arith)
+  none-given (Refused v) f q e = absurd (omega (arith, f .2))
+  none-given Short f q e = absurd (omega arith)
+  none-given (NoPlan k) f q e = q .0
+  none-given (Full k) f q e = absurd (omega arith)
+
+pub zero-is-least : ZeroIsLeast OurPlanner
+unfolding ZeroIsLeast
+zero-is-least job n before told after p e = let (rs, plan, safe) = zero-given job n before told after p e in (rs, plan)
+
+pub eight-is-none : EightIsNone OurPlanner
+unfolding EightIsNone NoneExists
+eight-is-none job n before told after p e =
+    none-given job n before told after p (p .answer) (known-of job n before told after p) (p .planned .promised) (number-is job n before told after p 8 e)
 
 -- ---- need
 
 module _ (job : Job) (n : ℕ) (before : Tables) where
-  ended : (end : Option Node) (need : ℕ) → ((numberOf (searched job n before (done end need) .answer) ≡ 0) ⊎ (numberOf (searched job n before (done end need) .answer) ≡ 8)) × (answerTold (searched job n before (done end need) .answer) .records ≡ need)
+  -- the tree ended with so many records
+  ended : (end : Option Node) (need : ℕ) → need ≤ n → ByNeed job n before need end (answerTold (searched job n before (done end need) .answer)) (searched job n before (done end need) .tables)
+  unfolding searched withPlan workedOn
+  ended (some x) need l =
+      record {
+        under = λ h. absurd (omega arith);
+        from = λ h. refl;
+        plan = λ h node e. let q : x ≡ node = cc in (refl, ap (λ (y : Node). planWritten job (y .routes) (before .output)) q);
+        none-left = λ h e. absurd (Option·some-ne-none x e);
+      }
+  ended none need l =
+      record {
+        under = λ h. absurd (omega arith);
+        from = λ h. refl;
+        plan = λ h node e. absurd (Option·some-ne-none node (sym e));
+        none-left = λ h e. refl;
+      }
+
+  -- or it was short of them
+  filled : (end : Option Node) (need : ℕ) → n < need → ByNeed job n before need end (answerTold (searched job n before (full n) .answer)) (searched job n before (full n) .tables)
   unfolding searched
-  ended (some x) need = (inl refl, refl)
-  ended none need = (inr refl, refl)
+  filled end need l =
+      record { under = λ h. (refl, refl); from = λ h. absurd (omega arith); plan = λ h node e. absurd (omega arith); none-left = λ h e. absurd (omega arith) }
 
-  filled : (numberOf (searched job n before (full n) .answer) ≡ 9) × (answerTold (searched job n before (full n) .answer) .records ≡ n)
-  unfolding searched
-  filled = (refl, refl)
+  by-need : (told : Told) (after : Tables) → OurPlanner job n before told after → Runs job n before → ByNeed job n before (tree-need job .need) (tree-need job .end) told after
+  by-need told after p runs = go (decLe (tree-need job .need) n)
+    where
+      go : Dec (tree-need job .need ≤ n) → ByNeed job n before (tree-need job .need) (tree-need job .end) told after
+      go (yes l) =
+          let s = seen-end job n before told after p (done (tree-need job .end) (tree-need job .need)) runs (tree-need job .is .enough n (runs .capacity .least) l) in
+          rw (s .tells, s .leaves) (ended (tree-need job .end) (tree-need job .need) l)
+      go (no l) =
+          let k : n < tree-need job .need = omega (arith, l) in
+          let s = seen-end job n before told after p (full n) runs (tree-need job .is .short n (runs .capacity .least) k) in
+          rw (s .tells, s .leaves) (filled (tree-need job .end) (tree-need job .need) k)
 
-  -- what the search gives back of a run that is promised
-  gives : (r : Answer) (after : Tables) (o : Outcome Node) → Planned job n before r after → Runs job n before → tree job n ≡ o → (r ≡ searched job n before o .answer) × (after ≡ searched job n before o .tables)
-  gives r after o p runs e =
-      let s = searched-is job n before runs ∙ ap (searched job n before) e in
-      (p .told ∙ ap (λ x. x .answer) s, p .tables ∙ ap (λ x. x .tables) s)
-
-pub nine-by-need : NineByNeed
+pub nine-by-need : NineByNeed OurPlanner
 unfolding NineByNeed
-nine-by-need job = (tree-need job .need, λ n before r after p runs. go n before r after p runs (decLe (tree-need job .need) n))
-  where
-    go : (n : ℕ) (before : Tables) (r : Answer) (after : Tables) → Planned job n before r after → Runs job n before → Dec (tree-need job .need ≤ n) → ByNeed n (tree-need job .need) r
-    go n before r after p runs (yes l) =
-        let g = gives job n before r after (done (tree-need job .end) (tree-need job .need)) p runs (tree-need job .is .enough n (some-records job n before runs) l) in
-        let f = ended job n before (tree-need job .end) (tree-need job .need) in
-        record { under = λ h. absurd (omega arith); from = λ h. rw (g .0) f }
-    go n before r after p runs (no l) =
-        let k : n < tree-need job .need = omega (arith, l) in
-        let g = gives job n before r after (full n) p runs (tree-need job .is .short n (some-records job n before runs) k) in
-        record { under = λ h. rw (g .0) (filled job n before); from = λ h. absurd (l h) }
+nine-by-need job = (tree-need job .need, tree-need job .end, tree-need job .is, λ n before told after p runs. by-need job n before told after p runs)
 
 module _ (job : Job) (n n′ : ℕ) (before before′ : Tables) (need : ℕ) where
   same-answer : (end : Option Node) → searched job n′ before′ (done end need) .answer ≡ searched job n before (done end need) .answer
@@ -168,43 +248,61 @@ module _ (job : Job) (n n′ : ℕ) (before before′ : Tables) (need : ℕ) whe
   same-answer (some x) = refl
   same-answer none = refl
 
-  same-routes : (end : Option Node) → numberOf (searched job n before (done end need) .answer) ≡ 0 → (rs : Routes) × (searched job n before (done end need) .tables .output ≡ planWritten job rs (before .output)) × (searched job n′ before′ (done end need) .tables .output ≡ planWritten job rs (before′ .output))
+  same-routes : (end : Option Node) → answerTold (searched job n before (done end need) .answer) .number ≡ 0 → (rs : Routes) × (searched job n before (done end need) .tables .output ≡ planWritten job rs (before .output)) × (searched job n′ before′ (done end need) .tables .output ≡ planWritten job rs (before′ .output))
   unfolding searched withPlan workedOn
   same-routes (some x) e = (x .routes, refl, refl)
   same-routes none e = absurd (omega arith)
 
-pub more-alters-nothing : MoreAltersNothing
+not-nine : (told : Told) → (told .number ≡ 0) ⊎ (told .number ≡ 8) → told .number ≡ 9 → ⊥
+not-nine told (inl e) nine = omega arith
+not-nine told (inr e) nine = omega arith
+
+pub more-alters-nothing : MoreAltersNothing OurPlanner
 unfolding MoreAltersNothing
-more-alters-nothing job n n′ before before′ r r′ after after′ p p′ runs runs′ more not-nine = go (decLe (tree-need job .need) n)
+more-alters-nothing job n n′ before before′ told told′ after after′ p p′ runs runs′ more given = go (decLe (tree-need job .need) n)
   where
-    go : Dec (tree-need job .need ≤ n) → (r′ ≡ r) × (numberOf r ≡ 0 → (rs : Routes) × (after .output ≡ planWritten job rs (before .output)) × (after′ .output ≡ planWritten job rs (before′ .output)))
+    go : Dec (tree-need job .need ≤ n) → (told′ ≡ told) × (told .number ≡ 0 → (rs : Routes) × (after .output ≡ planWritten job rs (before .output)) × (after′ .output ≡ planWritten job rs (before′ .output)))
     go (yes l) =
-        let g = gives job n before r after (done (tree-need job .end) (tree-need job .need)) p runs (tree-need job .is .enough n (some-records job n before runs) l) in
-        let g′ = gives job n′ before′ r′ after′ (done (tree-need job .end) (tree-need job .need)) p′ runs′ (tree-need job .is .enough n′ (some-records job n′ before′ runs′) (omega arith)) in (
-          g′ .0 ∙ same-answer job n n′ before before′ (tree-need job .need) (tree-need job .end) ∙ sym (g .0),
-          λ z. rw (g .1, g′ .1) (same-routes job n n′ before before′ (tree-need job .need) (tree-need job .end) (ap numberOf (sym (g .0)) ∙ z)),
+        let s = seen-end job n before told after p (done (tree-need job .end) (tree-need job .need)) runs (tree-need job .is .enough n (runs .capacity .least) l) in
+        let s′ = seen-end job n′ before′ told′ after′ p′ (done (tree-need job .end) (tree-need job .need)) runs′ (tree-need job .is .enough n′ (runs′ .capacity .least) (omega arith)) in (
+          s′ .tells ∙ ap answerTold (same-answer job n n′ before before′ (tree-need job .need) (tree-need job .end)) ∙ sym (s .tells),
+          λ z. rw (s .leaves, s′ .leaves) (same-routes job n n′ before before′ (tree-need job .need) (tree-need job .end) (ap (λ (t : Told). t .number) (sym (s .tells)) ∙ z)),
         )
-    go (no l) =
-        let k : n < tree-need job .need = omega (arith, l) in
-        let g = gives job n before r after (full n) p runs (tree-need job .is .short n (some-records job n before runs) k) in
-        absurd (not-nine (ap numberOf (g .0) ∙ filled job n before .0))
+    go (no l) = absurd (not-nine told given (by-need job n before told after p runs .under (omega (arith, l)) .0))
 
 -- ---- 3
 
-pub check-is-exact : CheckIsExact
+pub least-of-the-safe : LeastOfTheSafe OurPlanner
+unfolding LeastOfTheSafe
+least-of-the-safe job n before told after p e = let (rs, plan, safe) = zero-given job n before told after p e in (rs, safe)
+
+abbrev number : Fault → ℕ
+number f = f .number
+
+module _ (job : Job) (plan : List ℕ) (r m : Fault) (routes : OurRoutes job plan r) (meetings : OurMeetings job plan m) where
+  -- both say 0 exactly if the plan check passes
+  both-pass : ((r .number ≡ 0) × (m .number ≡ 0)) ↔ Passes job plan
+  both-pass = (
+    λ z. record { routes = ap number (sym routes) ∙ z .0; meetings = ap number (sym meetings) ∙ z .1 },
+    λ p. (ap number routes ∙ p .routes, ap number meetings ∙ p .meetings),
+  )
+
+pub check-is-exact : CheckIsExact OurRoutes OurMeetings
 unfolding CheckIsExact
-check-is-exact = both-zero-exact
+check-is-exact job plan r m routes meetings right lawful =
+    let both = both-pass job plan r m routes meetings in
+    let exact = plan-check-exact job plan (checks-exactly job .1 right) lawful in
+    (λ z. exact .0 (both .0 z), λ s. both .1 (exact .1 s))
 
-pub pass-is-safe : PassIsSafe
+pub pass-is-safe : PassIsSafe OurRoutes OurMeetings
 unfolding PassIsSafe
-pass-is-safe = both-zero-safe
+pass-is-safe job plan r m routes meetings z n =
+    let (accepted, lawful, safe) = zero-is-safe job plan (both-pass job plan r m routes meetings .0 (z, n)) in
+    (checks-exactly job .0 accepted, lawful, safe)
 
--- ---- the program
-
-pub page-whole : PageWhole
-unfolding PageWhole
-page-whole book n before after lent given r p room = whole book n before after lent given r p (omega arith) .0
-
-pub plan-printed : PlanPrinted
-unfolding PlanPrinted
-plan-printed = printed
+pub output-passes : OutputPasses OurPlanner OurRoutes OurMeetings
+unfolding OutputPasses
+output-passes job n before told after r m p e routes meetings =
+    let (rs, given) = zero-is-least job n before told after p e in
+    let passes : Passes job (after .output) = rw (given .written) (written-passes job rs (given .plan) (before .output) (checks-exactly job .1 (right-given job n before told after p e))) in
+    both-pass job (after .output) r m routes meetings .1 passes

@@ -1,1 +1,4 @@
+pub mod Broken
 pub mod Kept
+pub mod Numbers
+pub mod Passing

@@ -15,16 +15,22 @@ use mathlib.Core.Path.{_≡_}
 use mathlib.Core.List.{List}
 use mathlib.Core.Logic.{_⊎_, _↔_}
 use mathlib.Core.Option.{Option, none, some}
-use lib.ListN.{take}
+use mathlib.Core.Bool.{true}
+use lib.ListN.{length, take}
 use Rattle.lent.specs.Lent.{zeroed}
-use Rattle.job.specs.Job.{Job, planLength, wrongCapacity}
+use Rattle.job.specs.Job.{Job, slipOf, planLength, planCell, wrongCapacity}
 use Rattle.job.specs.Due.{RightJob, RightCapacity, Due}
-use Rattle.job.specs.Told.{bare}
+use Rattle.job.specs.Told.{bare, refusal}
 use Rattle.job.specs.Verdict.{judgeWith, judge, verdictTold}
 use Rattle.job.specs.declared.Verdict.the-variants.{Accepted}
 use Rattle.job.specs.declared.Told.{Told}
 use Rattle.job.specs.declared.Fault.{Fault}
-use Rattle.checks.specs.Demand.{LawfulRoutes, Safe}
+use Rattle.routes.specs.Check.{wrongAt, routeTold}
+use Rattle.routes.specs.declared.RouteVerdict.the-variants.{Wrong}
+use Rattle.clashes.specs.Check.{clashTold}
+use Rattle.clashes.specs.First.{RightChoice}
+use Rattle.clashes.specs.declared.Clash.{Clash}
+use Rattle.checks.specs.Demand.{LawfulRoutes, Safe, SafeNear}
 use Rattle.tree.specs.Plan.{Routes, IsPlan, IsSafe, Family, total}
 use Rattle.tree.specs.Tree.{Node}
 use Rattle.tree.specs.Promises.{NeedIs}
@@ -155,20 +161,61 @@ CheckIsExact routes meetings =
     (job : Job) (plan : List ℕ) (r m : Fault) → routes job plan r → meetings job plan m → RightJob job → LawfulRoutes job plan
     → ((r .number ≡ 0) × (m .number ≡ 0)) ↔ Safe job plan
 
+-- [check-is-exact-near] the same, where only an exchange of neighbouring cells is a collision: document 01's word
+unfoldable pub CheckIsExactNear : Check → Check → Type 0
+CheckIsExactNear routes meetings =
+    (job : Job) (plan : List ℕ) (r m : Fault) → routes job plan r → meetings job plan m → RightJob job → LawfulRoutes job plan
+    → ((r .number ≡ 0) × (m .number ≡ 0)) ↔ SafeNear job plan
+
 -- [pass-is-safe] and a plan that passes both, whatever its bytes, is of a right job, lawful and safe
 unfoldable pub PassIsSafe : Check → Check → Type 0
 PassIsSafe routes meetings =
     (job : Job) (plan : List ℕ) (r m : Fault) → routes job plan r → meetings job plan m → r .number ≡ 0 → m .number ≡ 0
     → RightJob job × LawfulRoutes job plan × Safe job plan
 
--- [plan-is-read] 'bytes after that length are not read': both say of a plan what they say of its first m × (H + 1) bytes
-unfoldable pub PlanIsRead : Check → Check → Type 0
-PlanIsRead routes meetings =
-    (job : Job) (plan : List ℕ) (r r′ m m′ : Fault) → routes job plan r → routes job (take (planLength job) plan) r′
-    → meetings job plan m → meetings job (take (planLength job) plan) m′ → (r ≡ r′) × (m ≡ m′)
-
 -- [output-passes] demands 2 and 3 joined at the bytes: after 0 both checks say 0 about the output as it stands
 unfoldable pub OutputPasses : Planner → Check → Check → Type 0
 OutputPasses gives routes meetings =
     (job : Job) (n : ℕ) (before : Tables) (told : Told) (after : Tables) (r m : Fault) → gives job n before told after → told .number ≡ 0
     → routes job (after .output) r → meetings job (after .output) m → (r .number ≡ 0) × (m .number ≡ 0)
+
+-- ---- Document 01, of the two checks: 'Both begin with checks 1 to 6 (no N there), then 7 if the plan is shorter than m × (H + 1); bytes
+-- ---- after that length are not read.'
+
+-- [checks-refuse-first]
+unfoldable pub ChecksRefuseFirst : Check → Check → Type 0
+ChecksRefuseFirst routes meetings =
+    (job : Job) (plan : List ℕ) (r m : Fault) → routes job plan r → meetings job plan m → (RightJob job → ⊥)
+    → (told : Told) × Due job (Unit {0}) told × (r ≡ refusal told) × (m ≡ refusal told)
+
+-- [short-plan-is-seven]
+unfoldable pub ShortPlanIsSeven : Check → Check → Type 0
+ShortPlanIsSeven routes meetings =
+    (job : Job) (plan : List ℕ) (r m : Fault) → routes job plan r → meetings job plan m → RightJob job → length plan < planLength job
+    → (r ≡ refusal (bare 7)) × (m ≡ refusal (bare 7))
+
+-- [plan-is-read] both say of a plan what they say of its first m × (H + 1) bytes
+unfoldable pub PlanIsRead : Check → Check → Type 0
+PlanIsRead routes meetings =
+    (job : Job) (plan : List ℕ) (r r′ m m′ : Fault) → routes job plan r → routes job (take (planLength job) plan) r′
+    → meetings job plan m → meetings job (take (planLength job) plan) m′ → (r ≡ r′) × (m ≡ m′)
+
+-- [first-wrong-told] 'The route check then says 0, or 21 with the first carrier, and its first step, at which the start, a move, a cell or
+-- the goal is wrong'
+pub record FirstWrong (job : Job) (plan : List ℕ) (i t : ℕ) : Type 0 where
+  pub carrier : i < job .count
+  pub step : t ≤ job .horizon
+  pub wrong : wrongAt job i (planCell job plan i) t ≡ true
+  pub first : (j s : ℕ) → j < job .count → s ≤ job .horizon → wrongAt job j (planCell job plan j) s ≡ true → (i ≤ j) × (i ≡ j → t ≤ s)
+
+unfoldable pub FirstWrongTold : Check → Type 0
+FirstWrongTold routes =
+    (job : Job) (plan : List ℕ) (r : Fault) → routes job plan r → RightJob job → planLength job ≤ length plan
+    → (LawfulRoutes job plan × (r ≡ refusal (bare 0))) ⊎ ((i t : ℕ) × FirstWrong job plan i t × (r ≡ routeTold (Wrong i t)))
+
+-- [chosen-told] 'The meeting check compares any bytes as cells ... and says 0, or 22 with the meeting or swap chosen by rule 5 and which of
+-- the two it is.'
+unfoldable pub ChosenTold : Check → Type 0
+ChosenTold meetings =
+    (job : Job) (plan : List ℕ) (m : Fault) → meetings job plan m → RightJob job → planLength job ≤ length plan
+    → (c : Clash) × RightChoice (planCell job plan) (slipOf job) (job .horizon) (job .count) c × (m ≡ clashTold c)
