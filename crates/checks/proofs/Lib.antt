@@ -1,4 +1,5 @@
 pub mod Demand
+pub mod Near
 pub mod Read
 pub mod WalkCode
 pub mod Settled
