@@ -11,15 +11,8 @@ use lib.Dec.{eqb}
 use lib.ListN.{length, take, drop, length-drop, take-append-drop}
 use lib.Seq.{length-take-le, take-all, drop-drop}
 use Rattle.book.specs.declared.BookVerdict.the-variants.{Good}
-use Rattle.book.specs.Book.{entryOffset, entryLength, bodyEnd, entryBody, wrongBodies, bookVerdict, askedVerdict, bodyOf}
+use Rattle.book.specs.Book.{entryOffset, entryLength, bodyEnd, entryBody, Consecutive, wrongBodies, bookVerdict, askedVerdict, bodyOf}
 use Rattle.book.proofs.Verdicts.{good-passed, asked-good, asked-three, good-body}
-
--- 'Bodies follow without gaps from byte 16 to the end.'
-pub record Consecutive (book : List ℕ) : Type 0 where
-  pub first : entryOffset book 1 ≡ 16
-  pub second : entryOffset book 2 ≡ entryOffset book 1 + entryLength book 1
-  pub third : entryOffset book 3 ≡ entryOffset book 2 + entryLength book 2
-  pub last : entryOffset book 3 + entryLength book 3 ≡ length book
 
 all-four : (a b c d : Bool) → not a || not b || not c || not d ≡ false → (a ≡ true) × (b ≡ true) × (c ≡ true) × (d ≡ true)
 all-four false b c d e = let z : _≡_ {A = ℕ} 0 1 = cc in absurd (omega arith)

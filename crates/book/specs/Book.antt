@@ -4,6 +4,7 @@
 use Prim.Native.Nat.{ℕ, _+_, _-_, _*_, _%_}
 use mathlib.Core.Bool.{Bool, not, _||_}
 use mathlib.Core.List.{List, []}
+use mathlib.Core.Path.{_≡_}
 use lib.Dec.{eqb, ltb}
 use lib.ListN.{length, getD, take, drop}
 use Rattle.lists.specs.Lists.{refuseIf}
@@ -76,7 +77,14 @@ unfoldable pub wrongKinds : List ℕ → Bool
 wrongKinds book =
     not (eqb (entryKind book 1) hallKind) || not (eqb (entryKind book 2) carriersKind) || not (eqb (entryKind book 3) limitsKind)
 
--- 13: 'bodies don't follow one another exactly to the end'; they 'follow without gaps from byte 16 to the end'
+-- 'Bodies follow without gaps from byte 16 to the end.'
+pub record Consecutive (book : List ℕ) : Type 0 where
+  pub first : entryOffset book 1 ≡ contentsLength
+  pub second : entryOffset book 2 ≡ bodyEnd book 1
+  pub third : entryOffset book 3 ≡ bodyEnd book 2
+  pub last : bodyEnd book 3 ≡ length book
+
+-- 13: 'bodies don't follow one another exactly to the end'
 unfoldable pub wrongBodies : List ℕ → Bool
 wrongBodies book =
     not (eqb (entryOffset book 1) contentsLength)

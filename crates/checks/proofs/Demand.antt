@@ -42,7 +42,7 @@ module _ (job : Job) (i : ℕ) (f g : ℕ → ℕ) (t : ℕ) (first : f 0 ≡ g 
   arrival-same true = ap (λ (c : ℕ). not (eqb c (job .startOf i))) first
   arrival-same false = ap₂ (wrongMove (job .hall)) before now
 
-  wrong-same : wrongAt job i f t ≡ wrongAt job i g t
+  pub wrong-same : wrongAt job i f t ≡ wrongAt job i g t
   unfolding wrongAt wrongArrival
   wrong-same = ap₂ _||_ (arrival-same (eqb t 0)) (ap (λ (c : ℕ). eqb t (job .horizon) && not (eqb c (job .goalOf i))) now)
 
@@ -87,7 +87,7 @@ module _ (job : Job) (cell : ℕ → ℕ → ℕ) where
       member-each row (range 0 (job .count)) (member-range {x = i} 0 (job .count) (omega arith) (omega arith))
       (member-map (λ t. record { carrier = i; step = t }) (range 0 (job .horizon + 1)) (member-range {x = t} 0 (job .horizon + 1) (omega arith) (omega arith)))
 
-  placed : (p : Place) → List·Memᴰ p (places (job .count) (job .horizon)) → (p .carrier < job .count) × (p .step ≤ job .horizon)
+  pub placed : (p : Place) → List·Memᴰ p (places (job .count) (job .horizon)) → (p .carrier < job .count) × (p .step ≤ job .horizon)
   unfolding places
   placed p m =
       let (i, a, b) = each-member row (range 0 (job .count)) m in

@@ -1,4 +1,6 @@
 pub mod Demand
+pub mod Near
+pub mod Read
 pub mod WalkCode
 pub mod Settled
 pub mod PlanCheck

@@ -10,8 +10,9 @@ use Rattle.routes.specs.Check.{routeVerdict, routeTold}
 use Rattle.routes.specs.declared.RouteVerdict.{RouteVerdict}
 use Rattle.clashes.specs.Check.{meetingVerdict, meetingTold}
 use Rattle.clashes.specs.declared.MeetingVerdict.{MeetingVerdict}
-use Rattle.checks.specs.Demand.{LawfulRoutes, Passes, Safe}
+use Rattle.checks.specs.Demand.{LawfulRoutes, Passes, Safe, SafeNear}
 use Rattle.checks.proofs.Demand.{plan-check-exact, zero-is-lawful}
+use Rattle.checks.proofs.Near.{safe-near}
 
 module _ (job : Job) (plan : List ℕ) (r : RouteVerdict) (m : MeetingVerdict) (routes : r ≡ routeVerdict job plan) (meetings : m ≡ meetingVerdict job plan) where
   route-number : routeTold r .number ≡ routeTold (routeVerdict job plan) .number
@@ -27,6 +28,13 @@ module _ (job : Job) (plan : List ℕ) (r : RouteVerdict) (m : MeetingVerdict) (
         λ z. exact .0 (record { routes = sym route-number ∙ z .0; meetings = sym meeting-number ∙ z .1 }),
         λ s. let p : Passes job plan = exact .1 s in (route-number ∙ p .routes, meeting-number ∙ p .meetings),
       )
+
+  -- and with the word 'neighbouring' in the collision
+  pub both-zero-exact-near : IsAccepted job → LawfulRoutes job plan → ((routeTold r .number ≡ 0) × (meetingTold m .number ≡ 0)) ↔ SafeNear job plan
+  both-zero-exact-near accepted law =
+      let exact = both-zero-exact accepted law in
+      let same = safe-near job plan law in
+      (λ z. same .0 (exact .0 z), λ s. exact .1 (same .1 s))
 
   -- where the route check says 0, the meeting check says 0 exactly when the plan is safe
   pub meeting-zero-exact : IsAccepted job → routeTold r .number ≡ 0 → (meetingTold m .number ≡ 0) ↔ Safe job plan

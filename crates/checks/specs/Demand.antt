@@ -5,11 +5,12 @@ use Prim.Native.Nat.{ℕ, _≤_, _<_}
 use mathlib.Core.Path.{_≡_}
 use mathlib.Core.List.{List}
 use lib.ListN.{length}
+use Rattle.hall.specs.Near.{Neighbours}
 use Rattle.job.specs.Job.{Job, slipOf, planLength, planCell}
 use Rattle.routes.specs.Route.{Lawful, routeIn}
 use Rattle.routes.specs.Check.{routeVerdict, routeTold}
 use Rattle.clashes.specs.Check.{meetingVerdict, meetingTold}
-use Rattle.clashes.specs.Holds.{Survives}
+use Rattle.clashes.specs.Holds.{Survives, SurvivesNear}
 
 -- the bytes hold a lawful route for each carrier
 pub record LawfulRoutes (job : Job) (plan : List ℕ) : Type 0 where
@@ -24,3 +25,8 @@ pub record Passes (job : Job) (plan : List ℕ) : Type 0 where
 -- no pattern of holds ever brings two carriers together
 abbrev pub Safe : Job → List ℕ → Type 0
 Safe job plan = Survives (planCell job plan) (slipOf job) (job .horizon) (job .count)
+
+-- the same, with document 01's 'neighbouring' in the collision: 'two carriers on one cell at one real moment, or exchanging
+-- neighbouring cells in one real step'
+abbrev pub SafeNear : Job → List ℕ → Type 0
+SafeNear job plan = SurvivesNear (Neighbours (job .hall .width)) (planCell job plan) (slipOf job) (job .horizon) (job .count)

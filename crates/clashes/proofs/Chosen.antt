@@ -10,6 +10,7 @@ use lib.Dec.{T}
 use Rattle.lists.specs.Lists.{firstOf}
 use Rattle.lists.proofs.Passing.{FirstFact}
 use Rattle.clashes.specs.Clash.{Meets, Swaps, Apart}
+use Rattle.clashes.specs.First.{ChosenFact}
 use Rattle.clashes.specs.Chosen.{happens, candidates, orClear, chosen}
 use Rattle.clashes.specs.declared.Clash.{Clash}
 use Rattle.clashes.specs.declared.Clash.the-variants.{Clear, Meeting, Swap}
@@ -30,17 +31,12 @@ module _ {at : ℕ → ℕ → ℕ} {slip : ℕ → ℕ} {h i j t : ℕ} where
 -- ---- what is chosen
 
 module _ (at : ℕ → ℕ → ℕ) (slip : ℕ → ℕ) (most h m : ℕ) where
-  unfoldable pub ChosenFact : Clash → Type 0
-  ChosenFact Clear = Apart at slip h m
-  ChosenFact (Meeting i j t d) = (i < m) × (j < m) × (d ≤ most) × Meets at slip h i j t d
-  ChosenFact (Swap i j t) = (i < m) × (j < m) × (i < j) × Swaps at slip h i j t
-
   -- a candidate that passes
-  passed : (c : Clash) → T (happens at slip h c) → Listed m most h c → ChosenFact c
+  passed : (c : Clash) → T (happens at slip h c) → Listed m most h c → ChosenFact at slip h m c
   unfolding ChosenFact happens Listed
   passed Clear test l = absurd l
-  passed (Meeting i j t d) test l = (l .0, l .1, l .3, meets-tells at slip h i j t d test .0)
-  passed (Swap i j t) test l = let s = swaps-tells at slip h i j t test in (l .0, l .1, s .1, s .0)
+  passed (Meeting i j t d) test l = let s = meets-tells at slip h i j t d test in record { one = l .0; other = l .1; smaller = s .1; is = s .0 }
+  passed (Swap i j t) test l = let s = swaps-tells at slip h i j t test in record { one = l .0; other = l .1; smaller = s .1; is = s .0 }
 
   module _ (within : (i : ℕ) → i < m → slip i ≤ most) where
     -- no candidate passes
@@ -71,26 +67,26 @@ module _ (at : ℕ → ℕ → ℕ) (slip : ℕ → ℕ) (most h m : ℕ) where
           elim (decLt i j)
           [ yes less ↦ no-swap-written i j t im jm less swaps | no more ↦ no-swap-written j i t jm im (omega arith) (swaps-turned swaps) ]
 
-    found : (o : Option Clash) → FirstFact (happens at slip h) (Listed m most h) (candidates m most h) o → ChosenFact (orClear o)
+    found : (o : Option Clash) → FirstFact (happens at slip h) (Listed m most h) (candidates m most h) o → ChosenFact at slip h m (orClear o)
     unfolding FirstFact orClear ChosenFact
     found none fails =
         let failed : (c : Clash) → Listed m most h c → T (happens at slip h c) → ⊥ = candidate-every (λ c. T (happens at slip h c) → ⊥) m most h fails in
         record { meetings = no-meeting failed; swaps = no-swap failed }
     found (some c) f = passed c (f .0) (f .1)
 
-    pub chosen-fact : ChosenFact (chosen at slip most h m)
+    pub chosen-fact : ChosenFact at slip h m (chosen at slip most h m)
     unfolding chosen
     chosen-fact = found (firstOf (happens at slip h) (candidates m most h)) (first-passed at slip most h m)
 
     pub clear-apart : chosen at slip most h m ≡ Clear → Apart at slip h m
     unfolding ChosenFact
-    clear-apart e = subst ChosenFact e chosen-fact
+    clear-apart e = subst (ChosenFact at slip h m) e chosen-fact
 
     pub apart-clear : Apart at slip h m → chosen at slip most h m ≡ Clear
     unfolding ChosenFact
     apart-clear apart = go (chosen at slip most h m) chosen-fact
       where
-        go : (c : Clash) → ChosenFact c → c ≡ Clear
+        go : (c : Clash) → ChosenFact at slip h m c → c ≡ Clear
         go Clear f = refl
-        go (Meeting i j t d) f = absurd (apart .meetings i j t d (f .0) (f .1) (f .3))
-        go (Swap i j t) f = absurd (apart .swaps i j t (f .0) (f .1) (f .3))
+        go (Meeting i j t d) f = absurd (apart .meetings i j t d (f .one) (f .other) (f .is))
+        go (Swap i j t) f = absurd (apart .swaps i j t (f .one) (f .other) (f .is))

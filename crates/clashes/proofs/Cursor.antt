@@ -14,12 +14,13 @@ use Rattle.lists.specs.Lists.{firstOf}
 use Rattle.lists.proofs.Passing.{FirstFact}
 use Rattle.clashes.specs.Chosen.{meets, happens, candidates, orClear, chosen}
 use Rattle.clashes.specs.Find.{FirstSwap}
+use Rattle.clashes.specs.First.{NotLater}
 use Rattle.clashes.specs.declared.Clash.{Clash}
 use Rattle.clashes.specs.declared.Clash.the-variants.{Clear, Meeting, Swap}
 use Rattle.clashes.proofs.Clash.{enum}
 use Rattle.clashes.proofs.Tests.{meets-tells}
 use Rattle.clashes.proofs.Candidates.{Listed, first-passed}
-use Rattle.clashes.proofs.First.{NotLater, first-chosen}
+use Rattle.clashes.proofs.First.{first-chosen}
 
 -- which of its variants a clash is, as a `match` reads it
 abbrev tag : Clash → ℕ

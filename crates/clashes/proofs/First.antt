@@ -10,25 +10,12 @@ use Rattle.lists.specs.Lists.{range, firstOf, Every}
 use Rattle.lists.proofs.Every.{every-map, every-below}
 use Rattle.lists.proofs.Orders.{LeastFact, first-least, Ordered, ordered-append, ordered-map, ordered-each, ordered-range}
 use Rattle.lists.proofs.Passing.{FirstFact}
-use Rattle.clashes.specs.Clash.{Meets, Swaps}
+use Rattle.clashes.specs.First.{NotLater, ChosenFact, RightChoice}
 use Rattle.clashes.specs.Chosen.{happens, overPairs, atStep, candidates, orClear, chosen}
 use Rattle.clashes.specs.declared.Clash.{Clash}
 use Rattle.clashes.specs.declared.Clash.the-variants.{Clear, Meeting, Swap}
 use Rattle.clashes.proofs.Candidates.{Listed, row, meetingsAt, every-pair, every-meeting, every-at-step, candidate-every, first-passed, meeting-passes, swap-passes}
-
--- 'least t, then least D, then least i, then least j. A swap at t comes after all meetings at t and before those at t + 1;
--- among swaps least i, then least j'. No clash at all comes after every clash.
-unfoldable pub NotLater : Clash → Clash → Type 0
-NotLater (Meeting i j t d) (Meeting i' j' t' d') =
-    (t ≤ t') × (t ≡ t' → d ≤ d') × (t ≡ t' → d ≡ d' → i ≤ i') × (t ≡ t' → d ≡ d' → i ≡ i' → j ≤ j')
-NotLater (Meeting i j t d) (Swap i' j' t') = t ≤ t'
-NotLater (Meeting i j t d) Clear = Unit {0}
-NotLater (Swap i j t) (Meeting i' j' t' d') = t < t'
-NotLater (Swap i j t) (Swap i' j' t') = (t ≤ t') × (t ≡ t' → i ≤ i') × (t ≡ t' → i ≡ i' → j ≤ j')
-NotLater (Swap i j t) Clear = Unit {0}
-NotLater Clear (Meeting i' j' t' d') = ⊥
-NotLater Clear (Swap i' j' t') = ⊥
-NotLater Clear Clear = Unit {0}
+use Rattle.clashes.proofs.Chosen.{chosen-fact}
 
 not-later-self : (c : Clash) → NotLater c c
 unfolding NotLater
@@ -119,7 +106,7 @@ module _ (at : ℕ → ℕ → ℕ) (slip : ℕ → ℕ) (most h m : ℕ) where
     first-of none fails least = absurd (candidate-every (λ c. T (happens at slip h c) → ⊥) m most h fails c listed test)
     first-of (some x) first least = candidate-every (λ c. T (happens at slip h c) → NotLater x c) m most h least c listed test
 
-    pub chosen-first : NotLater (chosen at slip most h m) c
+    chosen-first : NotLater (chosen at slip most h m) c
     unfolding chosen
     chosen-first =
         first-of (firstOf (happens at slip h) (candidates m most h)) (first-passed at slip most h m)
@@ -135,14 +122,27 @@ module _ (at : ℕ → ℕ → ℕ) (slip : ℕ → ℕ) (most h m : ℕ) where
       unfolding chosen
       first-chosen = only-of (firstOf (happens at slip h) (candidates m most h)) (first-passed at slip most h m) chosen-first
 
-  module _ (within : (i : ℕ) → i < m → slip i ≤ most) where
-    -- 'For D = 0 write the smaller number first.'
-    pub no-meeting-sooner : (i j t d : ℕ) → i < m → j < m → (d ≡ 0 → i < j) → Meets at slip h i j t d → NotLater (chosen at slip most h m) (Meeting i j t d)
-    no-meeting-sooner i j t d im jm less meets =
-        let passes = meeting-passes at slip most h m within i j t d im jm less meets in
-        chosen-first (Meeting i j t d) (passes .0) (passes .1)
+  pub chosen-right : ((i : ℕ) → i < m → slip i ≤ most) → RightChoice at slip h m (chosen at slip most h m)
+  chosen-right within =
+      record {
+        chosen = chosen-fact at slip most h m within;
+        meetings = λ i j t d f.
+            let passes = meeting-passes at slip most h m within i j t d (f .one) (f .other) (f .smaller) (f .is) in
+            chosen-first (Meeting i j t d) (passes .0) (passes .1);
+        swaps = λ i j t f.
+            let passes = swap-passes at slip most h m i j t (f .one) (f .other) (f .smaller) (f .is) in
+            chosen-first (Swap i j t) (passes .0) (passes .1);
+      }
 
-  pub no-swap-sooner : (i j t : ℕ) → i < m → j < m → i < j → Swaps at slip h i j t → NotLater (chosen at slip most h m) (Swap i j t)
-  no-swap-sooner i j t im jm less swaps =
-      let passes = swap-passes at slip most h m i j t im jm less swaps in
-      chosen-first (Swap i j t) (passes .0) (passes .1)
+-- and rule 5 leaves no choice
+module _ (at : ℕ → ℕ → ℕ) (slip : ℕ → ℕ) (h m : ℕ) where
+  no-later : (c c' : Clash) → RightChoice at slip h m c → ChosenFact at slip h m c' → NotLater c c'
+  unfolding ChosenFact NotLater
+  no-later Clear Clear r f = tt
+  no-later (Meeting i j t d) Clear r f = tt
+  no-later (Swap i j t) Clear r f = tt
+  no-later c (Meeting i j t d) r f = r .meetings i j t d f
+  no-later c (Swap i j t) r f = r .swaps i j t f
+
+  pub right-choice-unique : (c c' : Clash) → RightChoice at slip h m c → RightChoice at slip h m c' → c ≡ c'
+  right-choice-unique c c' r r' = not-later-both c c' (no-later c c' r (r' .chosen)) (no-later c' c r' (r .chosen))

@@ -16,7 +16,7 @@ use Rattle.clashes.specs.Holds.{Pattern, heldBy, doneBy, Sparing, placeA
 -- ---- a carrier's steps done and its holds make up the moment
 
 module _ (held : ℕ → Bool) where
-  done-held : (n : ℕ) → doneBy held n + heldBy held n ≡ n
+  pub done-held : (n : ℕ) → doneBy held n + heldBy held n ≡ n
   unfolding doneBy heldBy
   done-held zero = refl
   done-held (suc n) =
@@ -24,7 +24,7 @@ module _ (held : ℕ → Bool) where
       (elim (held n) as (λ c. held n ≡ c → doneBy held (suc n) + heldBy held (suc n) ≡ suc n)
       [ true ↦ λ e. rw (e, doneBy, heldBy) (omega arith) | false ↦ λ e. rw (e, doneBy, heldBy) (omega arith) ]) refl
 
-  done-rises : (n : ℕ) → (doneBy held n ≤ doneBy held (n + 1)) × (heldBy held n ≤ heldBy held (n + 1))
+  pub done-rises : (n : ℕ) → (doneBy held n ≤ doneBy held (n + 1)) × (heldBy held n ≤ heldBy held (n + 1))
   unfolding doneBy heldBy
   done-rises n =
       rw add-one

@@ -1,5 +1,6 @@
 pub mod Holds
 pub mod Slips
+pub mod Near
 pub mod Tests
 pub mod Candidates
 pub mod Chosen

@@ -13,7 +13,9 @@ pub record Meets (at : ℕ → ℕ → ℕ) (slip : ℕ → ℕ) (h i j t d : �
   pub same : at i t ≡ at j (t + d)
 
 -- 'For k = 0 there is also a swap at t: between t and t + 1 the two exchange neighbouring cells. For k of 1 or more a swap
--- is already a meeting.' On a lawful route a cell that is exchanged in one step is a neighbour or the same.
+-- is already a meeting.' The meeting check counts an exchange 'whether the two are neighbouring or not', and so does this. On lawful
+-- routes the word adds nothing: cells that are exchanged are neighbouring, or it is one cell, and that is a meeting at t (law
+-- `exchange-neighbours` of crate checks).
 pub record Swaps (at : ℕ → ℕ → ℕ) (slip : ℕ → ℕ) (h i j t : ℕ) : Type 0 where
   pub two : i ≡ j → ⊥
   pub none-slips : (slip i ≡ 0) × (slip j ≡ 0)

@@ -31,6 +31,16 @@ pub record Clean (at : ℕ → ℕ → ℕ) (h : ℕ) (p : Pattern) (i j n : ℕ
   pub not-together : placeAt at h p i n ≡ placeAt at h p j n → ⊥
   pub not-through : placeAt at h p i n ≡ placeAt at h p j (n + 1) → placeAt at h p j n ≡ placeAt at h p i (n + 1) → ⊥
 
+-- the same with the word 'neighbouring': an exchange counts only where the two cells are near. Rule 5 and `Clean` leave the word
+-- out. Where a step leads to a near cell or stays, as on lawful routes, the two say the same (law `near-survives`): cells that are
+-- exchanged are then near, or they are one cell, on which the two are together already.
+pub record CleanNear (near : ℕ → ℕ → Type 0) (at : ℕ → ℕ → ℕ) (h : ℕ) (p : Pattern) (i j n : ℕ) : Type 0 where
+  pub not-together : placeAt at h p i n ≡ placeAt at h p j n → ⊥
+  pub not-through : near (placeAt at h p i n) (placeAt at h p j n) → placeAt at h p i n ≡ placeAt at h p j (n + 1) → placeAt at h p j n ≡ placeAt at h p i (n + 1) → ⊥
+
 -- no pattern of holds ever brings two of m carriers together, at any real moment without end
 unfoldable pub Survives : (ℕ → ℕ → ℕ) → (ℕ → ℕ) → ℕ → ℕ → Type 0
 Survives at slip h m = (p : Pattern) → Sparing slip m p → (i j : ℕ) → i < m → j < m → (i ≡ j → ⊥) → (n : ℕ) → Clean at h p i j n
+
+unfoldable pub SurvivesNear : (ℕ → ℕ → Type 0) → (ℕ → ℕ → ℕ) → (ℕ → ℕ) → ℕ → ℕ → Type 0
+SurvivesNear near at slip h m = (p : Pattern) → Sparing slip m p → (i j : ℕ) → i < m → j < m → (i ≡ j → ⊥) → (n : ℕ) → CleanNear near at h p i j n

@@ -8,6 +8,7 @@ use mathlib.Core.Bool.{_&&_}
 use mathlib.Core.List.{List·Memᴰ}
 use native.Mathlib.Nat.{zero-mul, mul-comm, div-add-mod', mod-lt, div-lt-iff-lt-mul}
 use native.Mathlib.Omega.{arith}
+use native.Mathlib.Decide.{decLt, ℕ-discrete}
 use lib.Dec.{T, leb, ltb, leb→le, le→leb}
 use lib.ListN.{getD}
 use lib.Arith.{digits-lt, digits-div, digits-mod}
@@ -17,6 +18,7 @@ use Rattle.lists.proofs.Every.{only-every, every-below}
 use Rattle.lists.proofs.Orders.{Ordered, ordered-imply, ordered-only, ordered-each, Rising}
 use Rattle.lists.proofs.Tests.{of-true, and-both, both-and}
 use Rattle.hall.specs.Hall.{Hall, size, isOpen}
+use Rattle.hall.specs.Near.{Near, Neighbours}
 use Rattle.hall.specs.Moves.{rowChanges, colChanges, moveCount, rowAfter, colAfter, onGrid, cellAt, landing, reachFrom, reach, mayFollow}
 
 -- ---- a place on the grid, row and column from 1
@@ -167,12 +169,6 @@ reach-symmetric hall v u h n =
     let b = back m (f .listed) in
     leads-reach hall u v (4 - m) (record { listed = omega arith; inside = h; row = omega arith; col = omega arith })
 
--- one of row and column is the same, and the other differs by one at most
-unfoldable pub Near : ℕ → ℕ → ℕ → Type 0
-Near width u v =
-    ((u / width ≡ v / width) × (u % width ≤ v % width + 1) × (v % width ≤ u % width + 1))
-    ⊎ ((u % width ≡ v % width) × (u / width ≤ v / width + 1) × (v / width ≤ u / width + 1))
-
 near-move : (width u v m : ℕ) → m < moveCount → u / width + 1 ≡ rowAfter (v / width) m → u % width + 1 ≡ colAfter (v % width) m → Near width u v
 unfolding Near
 near-move width u v zero h r c = inr (omega arith, omega arith, omega arith)
@@ -184,6 +180,32 @@ near-move width u v (suc (suc (suc (suc (suc m))))) h r c = absurd (omega arith)
 
 pub reach-near : (hall : Hall) (v u : ℕ) → List·Memᴰ u (reach hall v) → Near (hall .width) u v
 reach-near hall v u n = let (m, f) = reach-leads hall v u n in near-move (hall .width) u v m (f .listed) (f .row) (f .col)
+
+-- and what is near is in reach: a cell of the grid on either side, above or below, or the same
+pub near-reach : (hall : Hall) (v u : ℕ) → u < size hall → Near (hall .width) u v → List·Memᴰ u (reach hall v)
+unfolding Near
+near-reach hall v u h (inl f) =
+    elim (decLt (u % hall .width) (v % hall .width)) [
+      | yes less ↦ leads-reach hall v u 1 (record { listed = omega arith; inside = h; row = omega arith; col = omega arith })
+      | no from ↦
+          elim (decLt (v % hall .width) (u % hall .width)) [
+            | yes more ↦ leads-reach hall v u 3 (record { listed = omega arith; inside = h; row = omega arith; col = omega arith })
+            | no to ↦ leads-reach hall v u 2 (record { listed = omega arith; inside = h; row = omega arith; col = omega arith })
+          ]
+    ]
+near-reach hall v u h (inr f) =
+    elim (decLt (u / hall .width) (v / hall .width)) [
+      | yes less ↦ leads-reach hall v u 0 (record { listed = omega arith; inside = h; row = omega arith; col = omega arith })
+      | no from ↦
+          elim (decLt (v / hall .width) (u / hall .width)) [
+            | yes more ↦ leads-reach hall v u 4 (record { listed = omega arith; inside = h; row = omega arith; col = omega arith })
+            | no to ↦ leads-reach hall v u 2 (record { listed = omega arith; inside = h; row = omega arith; col = omega arith })
+          ]
+    ]
+
+-- a step leads to a neighbour, or stays
+pub reach-neighbours : (hall : Hall) (v u : ℕ) → List·Memᴰ u (reach hall v) → (u ≡ v) ⊎ Neighbours (hall .width) u v
+reach-neighbours hall v u n = elim (ℕ-discrete u v) [ yes e ↦ inl e | no ne ↦ inr (record { near = reach-near hall v u n; different = ne }) ]
 
 -- ---- the cells that may follow: in reach, and open
 

@@ -1,3 +1,4 @@
 pub mod Hall
 pub mod Landing
 pub mod Moves
+pub mod Near

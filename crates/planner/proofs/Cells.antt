@@ -13,7 +13,8 @@ use Rattle.clashes.specs.Chosen.{chosen}
 use Rattle.clashes.specs.Find.{cellIn, firstClash}
 use Rattle.clashes.specs.declared.Clash.{Clash}
 use Rattle.clashes.specs.declared.Clash.the-variants.{Meeting, Swap}
-use Rattle.clashes.proofs.Chosen.{ChosenFact, chosen-fact}
+use Rattle.clashes.specs.First.{ChosenFact}
+use Rattle.clashes.proofs.Chosen.{chosen-fact}
 use Rattle.clashes.proofs.Same.{chosen-same}
 use Rattle.tree.specs.Plan.{cellsOf}
 use Rattle.tree.specs.Tree.{Node, clashOf}
@@ -103,22 +104,22 @@ module _ (task : Task) (bytes : List ℕ) (capacity : ℕ) (columns plans : List
 -- ---- what a chosen clash tells
 
 module _ (job : Job) (n : Node) where
-  told : (clash : Clash) → clash ≡ clashOf job n → ChosenFact (cellsOf (n .routes)) (slipOf job) (mostSlip job) (job .horizon) (job .count) clash
+  told : (clash : Clash) → clash ≡ clashOf job n → ChosenFact (cellsOf (n .routes)) (slipOf job) (job .horizon) (job .count) clash
   unfolding clashOf
   told clash e =
-      subst (ChosenFact (cellsOf (n .routes)) (slipOf job) (mostSlip job) (job .horizon) (job .count)) (sym e)
+      subst (ChosenFact (cellsOf (n .routes)) (slipOf job) (job .horizon) (job .count)) (sym e)
       (chosen-fact (cellsOf (n .routes)) (slipOf job) (mostSlip job) (job .horizon) (job .count) (λ i l. omega arith))
 
   module _ (clash : Clash) (is : clash ≡ clashOf job n) where
     pub meeting-within : (i j t d : ℕ) → clash ≡ Meeting i j t d → (i < job .count) × (j < job .count) × (t ≤ job .horizon)
     unfolding ChosenFact
-    meeting-within i j t d e = let f = told (Meeting i j t d) (sym e ∙ is) in (f .0, f .1, omega (arith, f .3 .inside))
+    meeting-within i j t d e = let f = told (Meeting i j t d) (sym e ∙ is) in (f .one, f .other, omega (arith, f .is .inside))
 
     pub swap-within : (i j t : ℕ) → clash ≡ Swap i j t → (i < job .count) × (j < job .count) × (t + 1 ≤ job .horizon)
     unfolding ChosenFact
-    swap-within i j t e = let f = told (Swap i j t) (sym e ∙ is) in (f .0, f .1, f .3 .inside)
+    swap-within i j t e = let f = told (Swap i j t) (sym e ∙ is) in (f .one, f .other, f .is .inside)
 
     -- the two exchange their cells
     pub swap-exchanged : (i j t : ℕ) → clash ≡ Swap i j t → (cellsOf (n .routes) i t ≡ cellsOf (n .routes) j (t + 1)) × (cellsOf (n .routes) j t ≡ cellsOf (n .routes) i (t + 1))
     unfolding ChosenFact
-    swap-exchanged i j t e = let f = told (Swap i j t) (sym e ∙ is) in (f .3 .there, f .3 .back)
+    swap-exchanged i j t e = let f = told (Swap i j t) (sym e ∙ is) in (f .is .there, f .is .back)

@@ -9,7 +9,7 @@ use native.Mathlib.Omega.{arith}
 use lib.Dec.{eqb}
 use lib.ListN.{length}
 use borrow.Author.Tests.{eqb-true, eq-eqb}
-use Rattle.routes.specs.Route.{cellOf, stepCost, cost}
+use Rattle.routes.specs.Route.{cellOf, stepCost, cost, LeastStep}
 
 -- ---- one step more in front
 
@@ -81,12 +81,6 @@ cost-below goal (v ∷ r) zero h =
 cost-below goal (v ∷ r) (suc c) h =
     let rest : cost goal r ≤ c = cost-below goal r c (λ t k l. h (suc t) (omega arith) (omega arith)) in
     omega (arith, step-most (eqb v goal) (cost goal r))
-
--- document 01: 'the least step from which it is on its goal at every step up to H'
-pub record LeastStep (goal h : ℕ) (r : List ℕ) (c : ℕ) : Type 0 where
-  pub within : c ≤ h
-  pub stays : (t : ℕ) → c ≤ t → t ≤ h → cellOf r t ≡ goal
-  pub least : (d : ℕ) → ((t : ℕ) → d ≤ t → t ≤ h → cellOf r t ≡ goal) → c ≤ d
 
 pub cost-least : (goal h : ℕ) (r : List ℕ) → length r ≡ h + 1 → cellOf r h ≡ goal → LeastStep goal h r (cost goal r)
 cost-least goal h r long ends =

@@ -15,6 +15,8 @@ use Rattle.lists.proofs.Passing.{any-member, member-any}
 use Rattle.lists.proofs.Tests.{and-both, both-and, or-either, or-left, or-right, is-false, of-false, passes, eq-test}
 use Rattle.hall.specs.Hall.{Hall, isOpen}
 use Rattle.hall.specs.Moves.{mayFollow}
+use Rattle.hall.specs.Near.{Neighbours}
+use Rattle.hall.proofs.Reach.{follow-reaches, reach-neighbours}
 use Rattle.job.specs.Job.{Job}
 use Rattle.job.specs.Verdict.{judge, IsAccepted}
 use Rattle.job.proofs.Accepted.{accepted-facts}
@@ -96,3 +98,8 @@ module _ (job : Job) (i : ℕ) where
     unfolding judge
     right-everywhere-lawful accepted h =
         (λ f. (f .long, lawful-right-everywhere f), λ f. right-everywhere-is-lawful (accepted-facts false job accepted .startOpen i h) (f .0) (f .1))
+
+-- a step of a lawful route stays, or leads to a neighbour
+pub lawful-step : (job : Job) (i : ℕ) (r : List ℕ) → Lawful job i r → (t : ℕ) → t < job .horizon → (cellOf r (t + 1) ≡ cellOf r t) ⊎ Neighbours (job .hall .width) (cellOf r (t + 1)) (cellOf r t)
+lawful-step job i r law t l =
+    reach-neighbours (job .hall) (cellOf r t) (cellOf r (t + 1)) (follow-reaches (job .hall) (cellOf r t) (cellOf r (t + 1)) (law .follows t l))

@@ -1,5 +1,5 @@
 -- Document 01, 'Routes, costs, meetings': a route, its lawfulness and its cost.
-use Prim.Native.Nat.{ℕ, zero, suc, _+_, _*_, _<_}
+use Prim.Native.Nat.{ℕ, zero, suc, _+_, _*_, _≤_, _<_}
 use mathlib.Core.Path.{_≡_}
 use mathlib.Core.Bool.{Bool, true, false}
 use mathlib.Core.List.{List, [], _∷_, List·Memᴰ}
@@ -25,14 +25,20 @@ pub record Lawful (job : Job) (i : ℕ) (r : List ℕ) : Type 0 where
   pub follows : (t : ℕ) → t < job .horizon → List·Memᴰ (cellOf r (t + 1)) (mayFollow (job .hall) (cellOf r t))
   pub ends : cellOf r (job .horizon) ≡ job .goalOf i
 
+-- 'Its cost is the least step from which it is on its goal at every step up to H.'
+pub record LeastStep (goal h : ℕ) (r : List ℕ) (c : ℕ) : Type 0 where
+  pub within : c ≤ h
+  pub stays : (t : ℕ) → c ≤ t → t ≤ h → cellOf r t ≡ goal
+  pub least : (d : ℕ) → ((t : ℕ) → d ≤ t → t ≤ h → cellOf r t ≡ goal) → c ≤ d
+
 -- one step more in front of a rest that costs c: nothing is added only where all of the rest is on the goal, and this too
 unfoldable pub stepCost : Bool → ℕ → ℕ
 stepCost true zero = zero
 stepCost true (suc c) = suc (suc c)
 stepCost false c = suc c
 
--- 'Its cost is the least step from which it is on its goal at every step up to H. A stay before that costs 1, as a move
--- does. Passing over the goal and leaving it again doesn't end the count.'
+-- 'A stay before that costs 1, as a move does. Passing over the goal and leaving it again doesn't end the count.' The step is
+-- counted from the end of the route; that it is the least one is the law `cost-least`.
 unfoldable pub cost : ℕ → List ℕ → ℕ
 cost goal [] = 0
 cost goal (v ∷ r) = stepCost (eqb v goal) (cost goal r)

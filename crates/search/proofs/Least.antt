@@ -9,10 +9,10 @@ use mathlib.Core.Option.{none, some}
 use mathlib.Core.Path.{_≡_}
 use native.Mathlib.Omega.{arith}
 use Rattle.lists.specs.Lists.{Every, Any}
-use Rattle.search.specs.Search.{done, Taken, takeLeast}
+use Rattle.search.specs.Search.{done, Taken, FirstLeast, takeLeast}
 use Rattle.lists.proofs.Every.{every-both, any-of-every, any-append-left, any-append-right}
 use Rattle.search.proofs.Goes.{Goes, goes-spent, goes-found, goes-on}
-use Rattle.search.proofs.Taken.{FirstLeast, none-only-empty, some-first-least, taken-least, taken-every, taken-any, good-next}
+use Rattle.search.proofs.Taken.{none-only-empty, some-first-least, taken-least, taken-every, taken-any, good-next}
 
 module _ {Node : Type 0} (sum : Node → ℕ) (clear : Node → Bool) (kids : Node → List Node) (Plan : Type 0) (Good : Node → Type 0) (In : Node → Plan → Type 0) (covers : (n : Node) (p : Plan) → Good n → clear n ≡ false → In n p → Any (λ k. In k p) (kids n)) (good-kids : (n : Node) → Good n → clear n ≡ false → Every Good (kids n)) where
   -- each plan still lies in an open node: where it lay in the node taken, it lies in one of the kids

@@ -11,9 +11,9 @@ use native.Mathlib.Omega.{arith}
 use lib.ListN.{length}
 use Rattle.lists.specs.Lists.{Every}
 use Rattle.lists.proofs.Sums.{totalOf, total-append}
-use Rattle.search.specs.Search.{done, full, Taken, takeLeast, search}
+use Rattle.search.specs.Search.{done, full, Taken, FirstLeast, takeLeast, search}
 use Rattle.search.proofs.Goes.{Goes, goes-spent, goes-found, goes-full, goes-on, turn, turn-spent, turn-found, turn-kids, goes-search}
-use Rattle.search.proofs.Taken.{FirstLeast, some-first-least, taken-every, good-next}
+use Rattle.search.proofs.Taken.{some-first-least, taken-every, good-next}
 
 total-taken : {Node : Type 0} (weight : Node → ℕ) {sum : Node → ℕ} (live : List Node) (o : Taken Node) → FirstLeast sum live o → totalOf weight live ≡ weight (o .node) + totalOf weight (o .rest)
 unfolding totalOf

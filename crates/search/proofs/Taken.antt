@@ -12,17 +12,8 @@ use borrow.Author.Tests.{leb-true, leb-false, le-leb, lt-leb}
 use lib.Dec.{leb}
 use lib.ListN.{length, length-append}
 use Rattle.lists.specs.Lists.{Every, Any}
-use Rattle.search.specs.Search.{Taken, prefer, takeLeast}
+use Rattle.search.specs.Search.{Taken, FirstLeast, prefer, takeLeast}
 use Rattle.lists.proofs.Every.{every-imply, every-append, every-taken, any-taken}
-
--- o is what taking the first node of least sum from live gives
-pub record FirstLeast {Node : Type 0} (sum : Node → ℕ) (live : List Node) (o : Taken Node) : Type 0 where
-  pub before : List Node
-  pub after : List Node
-  pub live-split : live ≡ before ++ o .node ∷ after
-  pub rest-split : o .rest ≡ before ++ after
-  pub above-before : Every (λ x. sum (o .node) < sum x) before
-  pub least-after : Every (λ x. sum (o .node) ≤ sum x) after
 
 module _ {Node : Type 0} (sum : Node → ℕ) where
   -- what is known of a list, by what was taken from it

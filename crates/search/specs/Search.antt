@@ -1,11 +1,13 @@
 -- Document 01, 'The search tree', rules 4 and 7, over any nodes: each has a sum, is clear or not, and has kids.
 -- The open nodes stand in the order of their numbers, so that the first of least sum is the one of least number.
-use Prim.Native.Nat.{ℕ, zero, suc, _+_}
+use Prim.Native.Nat.{ℕ, zero, suc, _+_, _≤_, _<_}
 use mathlib.Core.Bool.{Bool, true, false}
 use mathlib.Core.List.{List, [], _∷_, _++_}
 use mathlib.Core.Option.{Option, none, some}
+use mathlib.Core.Path.{_≡_}
 use lib.Dec.{leb, ltb}
 use lib.ListN.{length}
+use Rattle.lists.specs.Lists.{Every}
 
 -- how a search ends, and the records made: done, with a clear node or with none since no open node is left; or full, since a
 -- record is due and all are in use
@@ -17,6 +19,15 @@ pub data Outcome (Node : Type 0) : Type 0 where
 pub record Taken (Node : Type 0) : Type 0 where
   pub node : Node
   pub rest : List Node
+
+-- 'the open node of least sum, then of least number': all before it have a greater sum, none after it has a smaller; the others stay
+pub record FirstLeast {Node : Type 0} (sum : Node → ℕ) (live : List Node) (o : Taken Node) : Type 0 where
+  pub before : List Node
+  pub after : List Node
+  pub live-split : live ≡ before ++ o .node ∷ after
+  pub rest-split : o .rest ≡ before ++ after
+  pub above-before : Every (λ x. sum (o .node) < sum x) before
+  pub least-after : Every (λ x. sum (o .node) ≤ sum x) after
 
 module _ {Node : Type 0} (sum : Node → ℕ) (clear : Node → Bool) (kids : Node → List Node) where
   -- n stands before the others: it is taken unless one of them has a smaller sum

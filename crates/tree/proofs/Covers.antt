@@ -10,7 +10,7 @@ use mathlib.Core.Bool.{false, true≢false}
 use mathlib.Core.List.{List, _++_}
 use Rattle.lists.specs.Lists.{Any}
 use Rattle.lists.proofs.Every.{any-append-left, any-append-right}
-use Rattle.job.specs.Job.{Job, slipOf, mostSlip}
+use Rattle.job.specs.Job.{Job, slipOf}
 use Rattle.routes.specs.Route.{cellOf}
 use Rattle.routes.specs.Bars.{ObeysBar}
 use Rattle.routes.proofs.Binds.{Visits, Crosses, obeys-or-visits, obeys-or-crosses}
@@ -21,7 +21,7 @@ use Rattle.clashes.specs.declared.Clash.the-variants.{Clear, Meeting, Swap}
 use Rattle.tree.specs.Plan.{Routes, routeOf, cellsOf, IsPlan}
 use Rattle.tree.specs.Tree.{Node, clashOf, isClear, nodeClear, barOne, barTwo, child, kidsFor, kids}
 use Rattle.tree.proofs.Nodes.{In, child-covers, clash-fact}
-use Rattle.clashes.proofs.Chosen.{ChosenFact}
+use Rattle.clashes.specs.First.{ChosenFact}
 use Rattle.clashes.proofs.Holds.{apart-near}
 
 -- ---- two visits within the slips are a meeting of the plan
@@ -81,7 +81,7 @@ pub kids-cover : (job : Job) (n : Node) (rs : Routes) → IsPlan job rs → node
 unfolding kids nodeClear isClear ChosenFact
 kids-cover job n rs plan e within = go (clashOf job n) (clash-fact job n) e
   where
-    go : (c : Clash) → ChosenFact (cellsOf (n .routes)) (slipOf job) (mostSlip job) (job .horizon) (job .count) c → isClear c ≡ false → Any (λ k. In job k rs) (kidsFor job n c)
+    go : (c : Clash) → ChosenFact (cellsOf (n .routes)) (slipOf job) (job .horizon) (job .count) c → isClear c ≡ false → Any (λ k. In job k rs) (kidsFor job n c)
     go Clear fact e = absurd (true≢false e)
-    go (Meeting i j t d) fact e = meeting-covered job n rs plan i j (fact .0) (fact .1) within t d (fact .3)
-    go (Swap i j t) fact e = swap-covered job n rs plan i j (fact .0) (fact .1) within t (fact .3)
+    go (Meeting i j t d) fact e = meeting-covered job n rs plan i j (fact .one) (fact .other) within t d (fact .is)
+    go (Swap i j t) fact e = swap-covered job n rs plan i j (fact .one) (fact .other) within t (fact .is)

@@ -24,7 +24,8 @@ use Rattle.clashes.specs.declared.Clash.{Clash}
 use Rattle.clashes.specs.declared.Clash.the-variants.{Clear, Meeting, Swap}
 use Rattle.tree.specs.Plan.{Routes, routeOf, cellsOf, total, Family}
 use Rattle.tree.specs.Tree.{Node, routeUnder, withRoute, freeRoutes, rootOf, root, nodeSum, clashOf, barOne, barTwo, childWith, child, kidsFor, kids}
-use Rattle.clashes.proofs.Chosen.{ChosenFact, chosen-fact}
+use Rattle.clashes.specs.First.{ChosenFact}
+use Rattle.clashes.proofs.Chosen.{chosen-fact}
 use Rattle.routes.proofs.Right.{best-is-right}
 
 pub record Good (job : Job) (n : Node) : Type 0 where
@@ -91,7 +92,7 @@ module _ (job : Job) (n : Node) (b : Barred) where
 slips-bounded : (job : Job) (i : ℕ) → i < job .count → slipOf job i ≤ mostSlip job
 slips-bounded job i l = le-refl (job .delay)
 
-pub clash-fact : (job : Job) (n : Node) → ChosenFact (cellsOf (n .routes)) (slipOf job) (mostSlip job) (job .horizon) (job .count) (clashOf job n)
+pub clash-fact : (job : Job) (n : Node) → ChosenFact (cellsOf (n .routes)) (slipOf job) (job .horizon) (job .count) (clashOf job n)
 unfolding clashOf
 clash-fact job n = chosen-fact (cellsOf (n .routes)) (slipOf job) (mostSlip job) (job .horizon) (job .count) (slips-bounded job)
 
@@ -102,10 +103,10 @@ pub kids-good : (job : Job) (n : Node) → Good job n → Every (Good job) (kids
 unfolding kids kidsFor barOne barTwo Every ChosenFact
 kids-good job n g = go (clashOf job n) (clash-fact job n)
   where
-    go : (c : Clash) → ChosenFact (cellsOf (n .routes)) (slipOf job) (mostSlip job) (job .horizon) (job .count) c → Every (Good job) (kidsFor job n c)
+    go : (c : Clash) → ChosenFact (cellsOf (n .routes)) (slipOf job) (job .horizon) (job .count) c → Every (Good job) (kidsFor job n c)
     go Clear fact = tt
-    go (Meeting i j t d) fact = two-good job n (barOne job n (Meeting i j t d)) (barTwo job n (Meeting i j t d)) g (fact .0) (fact .1)
-    go (Swap i j t) fact = two-good job n (barOne job n (Swap i j t)) (barTwo job n (Swap i j t)) g (fact .0) (fact .1)
+    go (Meeting i j t d) fact = two-good job n (barOne job n (Meeting i j t d)) (barTwo job n (Meeting i j t d)) g (fact .one) (fact .other)
+    go (Swap i j t) fact = two-good job n (barOne job n (Swap i j t)) (barTwo job n (Swap i j t)) g (fact .one) (fact .other)
 
 -- ---- a node's sum bounds every plan that obeys its bars
 

@@ -7,7 +7,7 @@ use mathlib.Core.Bool.{true, false, true≢false}
 use mathlib.Core.Option.{Option, none, some}
 use lib.ListN.{length}
 use Rattle.lists.specs.Lists.{Every, Any}
-use Rattle.job.specs.Job.{Job, slipOf, mostSlip}
+use Rattle.job.specs.Job.{Job, slipOf}
 use Rattle.clashes.specs.Clash.{Apart}
 use Rattle.clashes.specs.declared.Clash.{Clash}
 use Rattle.clashes.specs.declared.Clash.the-variants.{Clear, Meeting, Swap}
@@ -21,7 +21,7 @@ use Rattle.tree.specs.Promises.{LeastPlan, NoneExists, NeedIs, Need}
 use Rattle.tree.proofs.Nodes.{Good, In, clash-fact, kids-good, sum-bounds, root-good, root-covers, root-length}
 use Rattle.tree.proofs.Covers.{kids-cover}
 use Rattle.tree.proofs.Weight.{weight, kids-lighter}
-use Rattle.clashes.proofs.Chosen.{ChosenFact}
+use Rattle.clashes.specs.First.{ChosenFact}
 use Rattle.clashes.proofs.Holds.{apart-survives, survives-apart}
 
 -- a plan, with the proof that it is one
@@ -56,7 +56,7 @@ module _ (job : Job) where
   unfolding nodeClear isClear ChosenFact
   clear-apart n e = go (clashOf job n) (clash-fact job n) e
     where
-      go : (c : Clash) → ChosenFact (cellsOf (n .routes)) (slipOf job) (mostSlip job) (job .horizon) (job .count) c → isClear c ≡ true → Apart (cellsOf (n .routes)) (slipOf job) (job .horizon) (job .count)
+      go : (c : Clash) → ChosenFact (cellsOf (n .routes)) (slipOf job) (job .horizon) (job .count) c → isClear c ≡ true → Apart (cellsOf (n .routes)) (slipOf job) (job .horizon) (job .count)
       go Clear fact e = fact
       go (Meeting i j t d) fact e = absurd (true≢false (sym e))
       go (Swap i j t) fact e = absurd (true≢false (sym e))

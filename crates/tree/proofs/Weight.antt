@@ -17,7 +17,7 @@ use Rattle.lists.proofs.Members.{member-each, member-map, member-range, member-
 use Rattle.lists.proofs.Passing.{any-member, member-any}
 use Rattle.lists.proofs.Sums.{count, count-falls, totalOf, total-append}
 use Rattle.hall.specs.Hall.{size, isOpen, openByte}
-use Rattle.job.specs.Job.{Job, slipOf, mostSlip}
+use Rattle.job.specs.Job.{Job, slipOf}
 use Rattle.routes.specs.Route.{cellOf}
 use Rattle.routes.specs.Bars.{Barred, barsFor, barsCell, barsWay, Obeys, ObeysBar}
 use Rattle.routes.proofs.Bars.{obeys-cell, obeys-way}
@@ -29,7 +29,7 @@ use Rattle.clashes.specs.declared.Clash.the-variants.{Clear, Meeting, Swap}
 use Rattle.tree.specs.Plan.{routeOf, cellsOf}
 use Rattle.tree.specs.Tree.{Node, routeUnder, clashOf, isClear, nodeClear, barOne, barTwo, childWith, child, kidsFor, kids}
 use Rattle.tree.proofs.Nodes.{Good, clash-fact}
-use Rattle.clashes.proofs.Chosen.{ChosenFact}
+use Rattle.clashes.specs.First.{ChosenFact}
 
 -- ---- places, and which of them are free
 
@@ -195,7 +195,7 @@ module _ (job : Job) (n : Node) (good : Good job n) where
   unfolding kids nodeClear isClear ChosenFact
   kids-lighter e = go (clashOf job n) (clash-fact job n) e
     where
-      go : (c : Clash) → ChosenFact (cellsOf (n .routes)) (slipOf job) (mostSlip job) (job .horizon) (job .count) c → isClear c ≡ false → totalOf (weight job) (kidsFor job n c) < weight job n
+      go : (c : Clash) → ChosenFact (cellsOf (n .routes)) (slipOf job) (job .horizon) (job .count) c → isClear c ≡ false → totalOf (weight job) (kidsFor job n c) < weight job n
       go Clear fact e = absurd (true≢false e)
-      go (Meeting i j t d) fact e = meeting-lighter i j t d (fact .0) (fact .1) (fact .3)
-      go (Swap i j t) fact e = swap-lighter i j t (fact .0) (fact .1) (fact .3)
+      go (Meeting i j t d) fact e = meeting-lighter i j t d (fact .one) (fact .other) (fact .is)
+      go (Swap i j t) fact e = swap-lighter i j t (fact .one) (fact .other) (fact .is)
