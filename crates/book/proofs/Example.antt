@@ -46,5 +46,5 @@ pub printed-job : (widthIn (bodyOf printedBook 1) ≡ 3) × (heightIn (bodyOf pr
     × (countIn (bodyOf printedBook 2) ≡ 2) × (startIn (bodyOf printedBook 2) 0 ≡ 3) × (goalIn (bodyOf printedBook 2) 0 ≡ 5)
     × (startIn (bodyOf printedBook 2) 1 ≡ 1) × (goalIn (bodyOf printedBook 2) 1 ≡ 7)
     × (delayIn (bodyOf printedBook 3) ≡ 0) × (horizonIn (bodyOf printedBook 3) ≡ 4)
-unfolding widthIn heightIn hallIn countIn startIn goalIn delayIn horizonIn
+unfolding widthIn heightIn hallIn delayIn horizonIn
 printed-job = rw (printed-hall, printed-carriers, printed-limits) (refl, refl, refl, refl, refl, refl, refl, refl, refl, refl)

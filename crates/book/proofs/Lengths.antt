@@ -39,7 +39,6 @@ module _ (book : List ℕ) (e : bookVerdict book ≡ Good) where
       omega (arith, length-drop 2 (bodyOf book 1))
 
   pub carriers-whole : length (bodyOf book 2) ≡ 2 * countIn (bodyOf book 2)
-  unfolding countIn
   carriers-whole =
       let b = good-body book 2 (asked-three book 2 e (omega arith) (omega arith)) in
       let t : ¬ (length (bodyOf book 2) % 2 ≡ 1) = rw b (eqb-false (length (entryBody book 2) % 2) 1 (tests .1)) in

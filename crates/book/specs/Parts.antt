@@ -14,14 +14,14 @@ heightIn body = getD body 1 0
 unfoldable pub hallIn : List ℕ → List ℕ
 hallIn body = drop 2 body
 
--- 'Kind 2: start and goal for each carrier.'
-unfoldable pub countIn : List ℕ → ℕ
+-- 'Kind 2: start and goal for each carrier.' The team of the carriers is made of these three (crate carriers).
+abbrev pub countIn : List ℕ → ℕ
 countIn body = length body / 2
 
-unfoldable pub startIn : List ℕ → ℕ → ℕ
+abbrev pub startIn : List ℕ → ℕ → ℕ
 startIn body i = getD body (2 * i) 0
 
-unfoldable pub goalIn : List ℕ → ℕ → ℕ
+abbrev pub goalIn : List ℕ → ℕ → ℕ
 goalIn body i = getD body (2 * i + 1) 0
 
 -- 'Kind 3: k, H.'

@@ -14,8 +14,8 @@ fn byte_or_zero(bytes: &[u8], at: usize) -> u8
     0
 }
 
-// Start and goal bytes in turn, as the book's second body has them. Past eight carriers only their count is known, which is
-// enough to refuse them.
+// The parser of a book's second body: start and goal bytes in turn. Past eight carriers only their count is known, which is enough
+// to refuse them.
 pub fn team_of_bytes(bytes: &[u8]) -> Team
     ensures { λ r. ⌜ r ≡ bytesTeam (now (bytes .entry)) ⌝ }
 {

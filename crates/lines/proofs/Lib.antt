@@ -2,6 +2,7 @@ pub mod Answers
 pub mod Example
 pub mod Fits
 pub mod Held
+pub mod JobIn
 pub mod LinesLaws
 pub mod PrintedLaws
 pub mod Program
