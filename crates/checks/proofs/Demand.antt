@@ -75,13 +75,13 @@ module _ (job : Job) (plan : List ℕ) (long : planLength job ≤ length plan) (
 -- ---- the first wrong place
 
 module _ (job : Job) (cell : ℕ → ℕ → ℕ) where
-  abbrev wrong : Place → Bool
+  abbrev pub wrong : Place → Bool
   wrong p = wrongAt job (p .carrier) (cell (p .carrier)) (p .step)
 
   abbrev row : ℕ → List Place
   row i = map (λ t. record { carrier = i; step = t }) (range 0 (job .horizon + 1))
 
-  listed : (i t : ℕ) → i < job .count → t ≤ job .horizon → List·Memᴰ (record { carrier = i; step = t }) (places (job .count) (job .horizon))
+  pub listed : (i t : ℕ) → i < job .count → t ≤ job .horizon → List·Memᴰ (record { carrier = i; step = t }) (places (job .count) (job .horizon))
   unfolding places
   listed i t li lt =
       member-each row (range 0 (job .count)) (member-range {x = i} 0 (job .count) (omega arith) (omega arith))
@@ -99,10 +99,10 @@ module _ (job : Job) (cell : ℕ → ℕ → ℕ) where
       (omega arith, omega arith)
 
   -- what the first wrong place tells, or that there is none
-  abbrev WrongFact : Option Place → Type 0
+  abbrev pub WrongFact : Option Place → Type 0
   WrongFact = FirstFact wrong (λ p. (p .carrier < job .count) × (p .step ≤ job .horizon)) (places (job .count) (job .horizon))
 
-  wrong-fact : WrongFact (firstOf wrong (places (job .count) (job .horizon)))
+  pub wrong-fact : WrongFact (firstOf wrong (places (job .count) (job .horizon)))
   wrong-fact =
       first-fact wrong (λ p. (p .carrier < job .count) × (p .step ≤ job .horizon)) (places (job .count) (job .horizon))
       (member-every (λ p. (p .carrier < job .count) × (p .step ≤ job .horizon)) (places (job .count) (job .horizon)) placed)
@@ -124,11 +124,11 @@ module _ (job : Job) (cell : ℕ → ℕ → ℕ) where
 
 module _ (job : Job) (plan : List ℕ) (accepted : IsAccepted job) (long : planLength job ≤ length plan) where
   -- what is left of both checks where the job is accepted and the plan is long enough
-  route-verdict : routeVerdict job plan ≡ placeVerdict (firstWrongPlace job (planCell job plan))
+  pub route-verdict : routeVerdict job plan ≡ placeVerdict (firstWrongPlace job (planCell job plan))
   unfolding routeVerdict planVerdict ifAccepted
   route-verdict = rw (accepted, planVerdict, le-ltb (length plan) (planLength job) long)
 
-  meeting-verdict : meetingVerdict job plan ≡ Compared (planClash job plan)
+  pub meeting-verdict : meetingVerdict job plan ≡ Compared (planClash job plan)
   unfolding meetingVerdict compared ifAccepted
   meeting-verdict = rw (accepted, compared, le-ltb (length plan) (planLength job) long)
 

@@ -1,5 +1,6 @@
--- Demand 3: 'For an accepted job and lawful routes, the plan check passes them exactly when no pattern of holds, each carrier held
--- at most k steps in all, ever brings two carriers into one cell or through each other, the time after the last step included.'
+-- Demand 3: 'For an accepted job and routes that start, step and end lawfully within the horizon, the plan check passes them exactly when
+-- no pattern of holds, each carrier held at most k steps in all, brings two carriers into one cell or through each other, at any moment
+-- from the start on, the time after the last step included.'
 -- 'Passing both is what demand 3 calls the plan check.'
 use Prim.Native.Nat.{ℕ, _≤_, _<_}
 use mathlib.Core.Path.{_≡_}

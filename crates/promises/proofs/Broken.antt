@@ -46,12 +46,12 @@ use Rattle.promises.proofs.Passing.{same-cells, written-passes}
 
 -- ---- a planner that answers each job, N and tables
 
-pub record Answered : Type 0 where
+pub record Given : Type 0 where
   pub told : Told
   pub after : Tables
 
 abbrev Function : Type 0
-Function = Job → ℕ → Tables → Answered
+Function = Job → ℕ → Tables → Given
 
 abbrev by : Function → Planner
 by f job n before told after = (told ≡ f job n before .told) × (after ≡ f job n before .after)
@@ -141,7 +141,7 @@ need-settles g keeps s runs told after p =
 
 module _ (f : Function) where
   -- what f answers at a worked job
-  abbrev at : Star → Answered
+  abbrev at : Star → Given
   at s = f (starJob s) (s .capacity) (starTables s)
 
   module _ (keeps : NineByNeed (by f)) where

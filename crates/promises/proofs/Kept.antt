@@ -1,24 +1,19 @@
--- Each promise of specs/Promises.antt, kept by our planner and our checks: by their contracts alone, which equate answer and tables with
--- document 01's definitions and beside them state least, none and need. Assumes nothing.
+-- Each promise of specs/Promises.antt about a planner, kept by ours: by its contract alone, which equates answer and tables with document
+-- 01's definitions and beside them states least, none and need. The promises about the checks are kept in Checks.antt. Assumes nothing.
 use Prim.Native.Nat.{ℕ, _≤_, _<_}
 use native.Mathlib.Omega.{arith}
 use native.Mathlib.Decide.{decLe}
 use mathlib.Core.Path.{_≡_, refl, sym, ap, subst, _∙_}
 use mathlib.Core.Bool.{Bool, true, false}
-use mathlib.Core.List.{List}
-use mathlib.Core.Logic.{_⊎_, inl, inr, _↔_}
+use mathlib.Core.Logic.{_⊎_, inl, inr}
 use mathlib.Core.Option.{Option, none, some, Option·some-ne-none}
 use Rattle.job.specs.Job.{Job, wrongCapacity}
 use Rattle.job.specs.Due.{RightJob, RightCapacity, Due}
-use Rattle.job.specs.Told.{bare, refusal}
-use Rattle.job.specs.Verdict.{judgeWith, judge, verdictTold, ifAccepted, IsAccepted}
-use Rattle.job.specs.declared.Fault.{Fault}
+use Rattle.job.specs.Verdict.{judgeWith, ifAccepted}
 use Rattle.job.specs.declared.Told.{Told}
-use Rattle.job.specs.declared.Verdict.{Verdict}
-use Rattle.job.specs.declared.Verdict.the-variants.{Accepted, WrongGrid, WrongBytes, WrongLimits, WrongCount, WrongEnds, SharedEnds}
+use Rattle.job.specs.declared.Verdict.the-variants.{Accepted}
 use Rattle.job.proofs.Due.{accepted-exactly as exactly, checks-accept-exactly as checks-exactly, planner-due}
-use Rattle.checks.specs.Demand.{LawfulRoutes, Passes, Safe}
-use Rattle.checks.proofs.Demand.{plan-check-exact, zero-is-safe}
+use Rattle.checks.specs.Demand.{Passes}
 use Rattle.search.specs.Search.{Outcome, done, full}
 use Rattle.tree.specs.Plan.{Routes}
 use Rattle.tree.specs.Tree.{Node, tree}
@@ -32,21 +27,12 @@ use Rattle.planner.specs.Post.{Planned}
 use Rattle.planner.specs.declared.Answer.{Answer}
 use Rattle.planner.specs.declared.Answer.the-variants.{Plan, Refused, Short, NoPlan, Full}
 use Rattle.planner.proofs.Known.{Known, known}
-use Rattle.promises.specs.Promises.{Runs, AcceptedExactly, ChecksAcceptExactly, AlwaysNumbered, RefusesFirst, ShortIsSeven, Left, TablesLeft, NothingElse, PlanGiven, ZeroIsLeast, EightIsNone, ByNeed, NineByNeed, MoreAltersNothing, SafeGiven, LeastOfTheSafe, CheckIsExact, PassIsSafe, OutputPasses}
+use Rattle.promises.specs.Promises.{Runs, AcceptedExactly, ChecksAcceptExactly, AlwaysNumbered, RefusesFirst, ShortIsSeven, Left, TablesLeft, NothingElse, PlanGiven, ZeroIsLeast, EightIsNone, ByNeed, NineByNeed, MoreAltersNothing, SafeGiven, LeastOfTheSafe, OutputPasses}
 use Rattle.promises.specs.Ours.{OurPlanner, OurRoutes, OurMeetings}
+use Rattle.promises.proofs.Checks.{refused, both-pass}
 use Rattle.promises.proofs.Passing.{written-passes}
 
 -- ---- what the definitions give
-
-refused : (v : Verdict) (go : Result) (stop : Result) → (v ≡ Accepted → ⊥) → ifAccepted v go stop ≡ stop
-unfolding ifAccepted
-refused Accepted go stop n = absurd (n refl)
-refused WrongGrid go stop n = refl
-refused WrongBytes go stop n = refl
-refused WrongLimits go stop n = refl
-refused WrongCount go stop n = refl
-refused (WrongEnds i) go stop n = refl
-refused (SharedEnds i j) go stop n = refl
 
 -- a result of the definitions, as it is seen
 record Seen (result : Result) (told : Told) (after : Tables) : Type 0 where
@@ -275,30 +261,6 @@ more-alters-nothing job n n′ before before′ told told′ after after′ p p�
 pub least-of-the-safe : LeastOfTheSafe OurPlanner
 unfolding LeastOfTheSafe
 least-of-the-safe job n before told after p e = let (rs, plan, safe) = zero-given job n before told after p e in (rs, safe)
-
-abbrev number : Fault → ℕ
-number f = f .number
-
-module _ (job : Job) (plan : List ℕ) (r m : Fault) (routes : OurRoutes job plan r) (meetings : OurMeetings job plan m) where
-  -- both say 0 exactly if the plan check passes
-  both-pass : ((r .number ≡ 0) × (m .number ≡ 0)) ↔ Passes job plan
-  both-pass = (
-    λ z. record { routes = ap number (sym routes) ∙ z .0; meetings = ap number (sym meetings) ∙ z .1 },
-    λ p. (ap number routes ∙ p .routes, ap number meetings ∙ p .meetings),
-  )
-
-pub check-is-exact : CheckIsExact OurRoutes OurMeetings
-unfolding CheckIsExact
-check-is-exact job plan r m routes meetings right lawful =
-    let both = both-pass job plan r m routes meetings in
-    let exact = plan-check-exact job plan (checks-exactly job .1 right) lawful in
-    (λ z. exact .0 (both .0 z), λ s. both .1 (exact .1 s))
-
-pub pass-is-safe : PassIsSafe OurRoutes OurMeetings
-unfolding PassIsSafe
-pass-is-safe job plan r m routes meetings z n =
-    let (accepted, lawful, safe) = zero-is-safe job plan (both-pass job plan r m routes meetings .0 (z, n)) in
-    (checks-exactly job .0 accepted, lawful, safe)
 
 pub output-passes : OutputPasses OurPlanner OurRoutes OurMeetings
 unfolding OutputPasses

@@ -6,6 +6,7 @@ use Prim.Native.Nat.{ℕ}
 use mathlib.Core.Path.{_≡_}
 use mathlib.Core.List.{List}
 use Rattle.job.specs.Job.{Job}
+use Rattle.job.specs.declared.Fault.{Fault}
 use Rattle.job.specs.declared.Told.{Told}
 use Rattle.routes.specs.Check.{routeVerdict, routeTold}
 use Rattle.clashes.specs.Check.{meetingVerdict, meetingTold}
@@ -13,7 +14,9 @@ use Rattle.tables.specs.Tables.{Tables}
 use Rattle.planner.specs.Answer.{answerTold}
 use Rattle.planner.specs.Post.{Planned}
 use Rattle.planner.specs.declared.Answer.{Answer}
-use Rattle.promises.specs.Promises.{Planner, Check}
+use Rattle.adfulmise.specs.Lent.{written, toldValues, faultValues}
+use Rattle.adfulmise.specs.Post.{Answered, Checked}
+use Rattle.promises.specs.Promises.{Check}
 
 pub record OurPlanner (job : Job) (n : ℕ) (before : Tables) (told : Told) (after : Tables) : Type 0 where
   pub answer : Answer
@@ -25,3 +28,17 @@ OurRoutes job plan fault = fault ≡ routeTold (routeVerdict job plan)
 
 abbrev pub OurMeetings : Check
 OurMeetings job plan fault = fault ≡ meetingTold (meetingVerdict job plan)
+
+-- [library-is-ours] The library keeps the same promises: `Answered` is the whole contract of `adfulmise_plan`, `Checked` of the two checks
+-- (crate adfulmise, specs/Post.antt), and what they give back and write for a caller in C is what ours tell
+unfoldable pub LibraryIsOurs : Type 0
+LibraryIsOurs =
+    (job : Job) (n : ℕ) (before : Tables) (lent : List ℕ) (r : ℕ) (after : Tables) (given : List ℕ) → Answered job n before lent r after given
+    → (told : Told) × OurPlanner job n before told after × (r ≡ told .number) × (given ≡ written (toldValues told) lent)
+
+-- [library-checks-are-ours]
+unfoldable pub LibraryChecksAreOurs : Type 0
+LibraryChecksAreOurs =
+    (job : Job) (plan lent : List ℕ) (r : ℕ) (given : List ℕ)
+    → (Checked (routeTold (routeVerdict job plan)) lent r given → (fault : Fault) × OurRoutes job plan fault × (r ≡ fault .number) × (given ≡ written (faultValues fault) lent))
+    × (Checked (meetingTold (meetingVerdict job plan)) lent r given → (fault : Fault) × OurMeetings job plan fault × (r ≡ fault .number) × (given ≡ written (faultValues fault) lent))

@@ -30,6 +30,6 @@ pub record IsPlan (job : Job) (rs : Routes) : Type 0 where
   pub family : Family job rs
   pub apart : Apart (cellsOf rs) (slipOf job) (job .horizon) (job .count)
 
--- demand 3: no pattern of holds, each carrier held at most k steps in all, ever brings two together
+-- demand 3: no 'pattern of holds, each carrier held at most k steps in all, brings two carriers into one cell or through each other'
 abbrev pub IsSafe : Job → Routes → Type 0
 IsSafe job rs = Survives (cellsOf rs) (slipOf job) (job .horizon) (job .count)
