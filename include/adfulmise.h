@@ -9,13 +9,13 @@
  * Build it with `rt staticlib adfulmise`, which writes target/staticlib/libadfulmise.a.
  *
  * A job, in all three functions that take one:
- *   hall, hall_len          the hall's bytes row by row from the top: 46 ('.') is an open cell, 35 ('#') a closed one;
- *                           width * height of them
- *   width, height           columns and rows, 1 to 16 each; the number of a cell is row * width + column
- *   carriers, carriers_len  two bytes for each carrier, its start cell and its goal cell; 1 to 8 carriers. An odd byte at the
- *                           end is no carrier
- *   k                       how many steps each carrier may be late in all, 0 to 4
- *   h                       the horizon: routes have the steps 0 to h, h from 0 to 63
+ *   hall, hall_len            the hall's bytes row by row from the top: 46 ('.') is an open cell, 35 ('#') a closed one;
+ *                             width * height of them
+ *   width, height             columns and rows, 1 to 16 each; the number of a cell is row * width + column
+ *   carriers, carriers_count  a record for each carrier, its start cell and its goal cell, and how many records there are:
+ *                             1 to 8. Carriers are numbered from 0, in the order of their records
+ *   k                         how many steps each carrier may be late in all, 0 to 4
+ *   h                         the horizon: routes have the steps 0 to h, h from 0 to 63
  *
  * The numbers given back, the lowest that applies:
  *    0  a plan was found; the check passed; the book is good
@@ -41,6 +41,12 @@
 #ifdef __cplusplus
 extern "C" {
 #endif
+
+/* A carrier: the cell it starts from and the cell it has to reach. Two bytes, no more. */
+typedef struct adfulmise_carrier {
+    uint8_t start;
+    uint8_t goal;
+} adfulmise_carrier;
 
 /* The places of what is told. Untold numbers are 0. */
 enum {
@@ -82,7 +88,7 @@ enum {
 size_t adfulmise_plan(
     const uint8_t *hall, size_t hall_len,
     size_t width, size_t height,
-    const uint8_t *carriers, size_t carriers_len,
+    const adfulmise_carrier *carriers, size_t carriers_count,
     size_t k, size_t h, size_t n,
     uint16_t *columns, size_t columns_len,
     uint8_t *plans, size_t plans_len,
@@ -102,7 +108,7 @@ size_t adfulmise_plan(
 size_t adfulmise_check_routes(
     const uint8_t *hall, size_t hall_len,
     size_t width, size_t height,
-    const uint8_t *carriers, size_t carriers_len,
+    const adfulmise_carrier *carriers, size_t carriers_count,
     size_t k, size_t h,
     const uint8_t *plan, size_t plan_len,
     size_t *told, size_t told_len);
@@ -116,7 +122,7 @@ size_t adfulmise_check_routes(
 size_t adfulmise_check_meetings(
     const uint8_t *hall, size_t hall_len,
     size_t width, size_t height,
-    const uint8_t *carriers, size_t carriers_len,
+    const adfulmise_carrier *carriers, size_t carriers_count,
     size_t k, size_t h,
     const uint8_t *plan, size_t plan_len,
     size_t *told, size_t told_len);

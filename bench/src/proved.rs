@@ -1,7 +1,7 @@
 //! The proved planner behind the C functions of its two archives.
 
 use crate::side::Side;
-use crate::task::{PlanTask, RouteTask, Tables, Told};
+use crate::task::{Carrier, PlanTask, RouteTask, Tables, Told};
 
 unsafe extern "C" {
     #[cfg(feature = "proved")]
@@ -10,8 +10,8 @@ unsafe extern "C" {
         hall_len: usize,
         width: usize,
         height: usize,
-        carriers: *const u8,
-        carriers_len: usize,
+        carriers: *const Carrier,
+        carriers_count: usize,
         k: usize,
         h: usize,
         n: usize,

@@ -35,14 +35,21 @@ impl RouteTask {
     }
 }
 
+/// A carrier's start cell and goal cell, as C has them too.
+#[repr(C)]
+#[derive(Clone, Copy, Debug)]
+pub struct Carrier {
+    pub start: u8,
+    pub goal: u8,
+}
+
 /// A job: what a planner call is given, but for the lent tables.
 #[derive(Clone, Debug)]
 pub struct PlanTask {
     pub hall: Vec<u8>,
     pub width: usize,
     pub height: usize,
-    /// Start and goal of each carrier.
-    pub carriers: Vec<u8>,
+    pub carriers: Vec<Carrier>,
     pub k: usize,
     pub h: usize,
     pub n: usize,
@@ -51,7 +58,7 @@ pub struct PlanTask {
 impl PlanTask {
     /// How many carriers there are.
     pub fn count(&self) -> usize {
-        self.carriers.len() / 2
+        self.carriers.len()
     }
 
     /// The bytes of all routes of one node.

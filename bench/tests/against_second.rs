@@ -3,7 +3,7 @@
 
 use bench::compare::planned;
 use bench::side::Side;
-use bench::task::{BAD_ARGUMENTS, NO_ROUTE, PlanTask, RouteTask, Tables};
+use bench::task::{self, BAD_ARGUMENTS, NO_ROUTE, PlanTask, RouteTask, Tables};
 use bench::yardstick::records::{Bar, write_record, write_root};
 use bench::yardstick::{BY_CELL, BY_LAYER};
 use second::bar::{self, Barred, CarrierBar};
@@ -23,7 +23,7 @@ fn task(job: &Job, n: usize) -> PlanTask {
         width: job.width,
         height: job.height,
         carriers: (job.carriers.iter())
-            .flat_map(|ends| [ends.start, ends.goal])
+            .map(|&Carrier { start, goal }| task::Carrier { start, goal })
             .collect(),
         k: job.k,
         h: job.horizon,

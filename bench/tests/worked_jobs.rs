@@ -2,15 +2,18 @@
 //! where not given", on both yardsticks.
 
 use bench::compare::planned;
-use bench::task::{PlanTask, Tables, Told};
+use bench::task::{Carrier, PlanTask, Tables, Told};
 use bench::yardstick::{BY_CELL, BY_LAYER, OPEN};
 
+/// `carriers` has the start and the goal of each in turn.
 fn job(width: usize, height: usize, carriers: &[u8], h: usize) -> PlanTask {
     PlanTask {
         hall: vec![OPEN; width * height],
         width,
         height,
-        carriers: carriers.to_vec(),
+        carriers: (carriers.as_chunks::<2>().0.iter())
+            .map(|&[start, goal]| Carrier { start, goal })
+            .collect(),
         k: 0,
         h,
         n: 128,

@@ -35,9 +35,9 @@ struct call {
 
 /* How many bytes an entry of each piece has, in the order of the function's arguments; 0 where there is no piece. */
 static const size_t ENTRY_SIZE[FUNCTIONS][PIECES] = {
-    [PLAN] = {1, 1, 2, 1, 1, 1, 8},
-    [CHECK_ROUTES] = {1, 1, 1, 8},
-    [CHECK_MEETINGS] = {1, 1, 1, 8},
+    [PLAN] = {1, sizeof(adfulmise_carrier), 2, 1, 1, 1, 8},
+    [CHECK_ROUTES] = {1, sizeof(adfulmise_carrier), 1, 8},
+    [CHECK_MEETINGS] = {1, sizeof(adfulmise_carrier), 1, 8},
     [READ] = {1, 8},
 };
 
@@ -90,15 +90,17 @@ static void take_back(struct piece *piece) {
 
 static size_t *numbers_in(const struct piece *piece) { return (size_t *)piece->start; }
 
+static const adfulmise_carrier *carriers_in(const struct piece *piece) { return (const adfulmise_carrier *)piece->start; }
+
 static uint64_t plan(const uint64_t *numbers, const struct piece *p) {
-    return adfulmise_plan(p[0].start, p[0].entries, numbers[0], numbers[1], p[1].start, p[1].entries, numbers[2], numbers[3],
-                          numbers[4], (uint16_t *)p[2].start, p[2].entries, p[3].start, p[3].entries, p[4].start, p[4].entries,
-                          p[5].start, p[5].entries, numbers_in(&p[6]), p[6].entries);
+    return adfulmise_plan(p[0].start, p[0].entries, numbers[0], numbers[1], carriers_in(&p[1]), p[1].entries, numbers[2],
+                          numbers[3], numbers[4], (uint16_t *)p[2].start, p[2].entries, p[3].start, p[3].entries, p[4].start,
+                          p[4].entries, p[5].start, p[5].entries, numbers_in(&p[6]), p[6].entries);
 }
 
 static uint64_t check(uint64_t function, const uint64_t *numbers, const struct piece *p) {
     return (function == CHECK_ROUTES ? adfulmise_check_routes : adfulmise_check_meetings)(
-        p[0].start, p[0].entries, numbers[0], numbers[1], p[1].start, p[1].entries, numbers[2], numbers[3], p[2].start,
+        p[0].start, p[0].entries, numbers[0], numbers[1], carriers_in(&p[1]), p[1].entries, numbers[2], numbers[3], p[2].start,
         p[2].entries, numbers_in(&p[3]), p[3].entries);
 }
 

@@ -8,7 +8,9 @@ use second::random::Random;
 use crate::library::Piece;
 use crate::process::number_bytes;
 
-/// How many bytes an entry of the record columns and of a told array has.
+/// How many bytes a carrier's record and an entry of the record columns and of
+/// a told array have.
+const CARRIER: usize = 2;
 const COLUMN: usize = 2;
 const TOLD: usize = 8;
 
@@ -25,17 +27,15 @@ pub fn lent_bytes(name: &'static str, bytes: &[u8]) -> Piece {
     }
 }
 
-/// The hall, and the carriers: sometimes with an odd byte, which "is not read".
-pub fn lent_job(random: &mut Random, job: &Job) -> Vec<Piece> {
+/// The hall, and a record of start and goal for each carrier.
+pub fn lent_job(job: &Job) -> Vec<Piece> {
     let ends = job.carriers.iter().flat_map(|c| [c.start, c.goal]);
-    let mut carriers: Vec<u8> = ends.collect();
-    if random.chance(10) {
-        carriers.push(random.byte());
-    }
-    vec![
-        lent_bytes("hall", &job.hall),
-        lent_bytes("carriers", &carriers),
-    ]
+    let carriers = Piece {
+        name: "carriers",
+        entry_size: CARRIER,
+        bytes: ends.collect(),
+    };
+    vec![lent_bytes("hall", &job.hall), carriers]
 }
 
 /// An array for told values, with up to three entries too many or, now and

@@ -1,8 +1,7 @@
 //! The program and the library against the independent second program: every
 //! printed line, every number given back, every told value and every entry of
 //! every lent table. What a caller of the library is promised beyond document 01
-//! (the lent array of told values, an odd byte behind the carriers) is in
-//! `include/adfulmise.h`.
+//! (the lent array of told values) is in `include/adfulmise.h`.
 //!
 //! | Module      | Idea                                                        |
 //! |-------------|-------------------------------------------------------------|

@@ -87,7 +87,7 @@ impl Comparer {
         Call {
             function,
             numbers,
-            pieces: job.map_or_else(Vec::new, |job| lent_job(&mut self.random, job)),
+            pieces: job.map_or_else(Vec::new, lent_job),
             at_start: self.random.chance(50),
         }
     }

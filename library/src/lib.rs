@@ -8,14 +8,16 @@ use std::ops::Range;
 mod linked {
     //! The exported functions. A slice goes in as its pointer and its length.
 
+    use super::Carrier;
+
     unsafe extern "C" {
         pub fn adfulmise_plan(
             hall: *const u8,
             hall_len: usize,
             width: usize,
             height: usize,
-            carriers: *const u8,
-            carriers_len: usize,
+            carriers: *const Carrier,
+            carriers_count: usize,
             k: usize,
             h: usize,
             n: usize,
@@ -36,8 +38,8 @@ mod linked {
             hall_len: usize,
             width: usize,
             height: usize,
-            carriers: *const u8,
-            carriers_len: usize,
+            carriers: *const Carrier,
+            carriers_count: usize,
             k: usize,
             h: usize,
             plan: *const u8,
@@ -51,8 +53,8 @@ mod linked {
             hall_len: usize,
             width: usize,
             height: usize,
-            carriers: *const u8,
-            carriers_len: usize,
+            carriers: *const Carrier,
+            carriers_count: usize,
             k: usize,
             h: usize,
             plan: *const u8,
@@ -71,7 +73,8 @@ mod linked {
     }
 }
 
-/// A carrier's start cell and goal cell.
+/// A carrier's start cell and goal cell: `struct adfulmise_carrier` of the header.
+#[repr(C)]
 #[derive(Clone, Copy, Debug, PartialEq, Eq)]
 pub struct Carrier {
     pub start: u8,
@@ -90,14 +93,6 @@ pub struct Job<'a> {
 }
 
 impl Job<'_> {
-    /// Start and goal of each carrier in turn.
-    fn carrier_bytes(&self) -> Vec<u8> {
-        self.carriers
-            .iter()
-            .flat_map(|carrier| [carrier.start, carrier.goal])
-            .collect()
-    }
-
     /// How many bytes a plan of this job has; at least the least length of `Tables::output`.
     pub fn plan_len(&self) -> usize {
         self.carriers.len().saturating_mul(self.h.saturating_add(1))
@@ -149,7 +144,6 @@ impl Tables {
 /// The planner with at most n records. For number 0 the plan stands at the start of `tables.output`: carrier by carrier, its cells
 /// for the steps 0 to h.
 pub fn plan(job: &Job, n: usize, tables: &mut Tables) -> Told {
-    let carriers = job.carrier_bytes();
     let mut told = [0; 5];
     // SAFETY: each pointer comes with the length of the slice or vector that it is taken from, and the five that are written are
     // borrowed apart from each other.
@@ -159,8 +153,8 @@ pub fn plan(job: &Job, n: usize, tables: &mut Tables) -> Told {
             job.hall.len(),
             job.width,
             job.height,
-            carriers.as_ptr(),
-            carriers.len(),
+            job.carriers.as_ptr(),
+            job.carriers.len(),
             job.k,
             job.h,
             n,
@@ -192,7 +186,7 @@ type Check = unsafe extern "C" fn(
     usize,
     usize,
     usize,
-    *const u8,
+    *const Carrier,
     usize,
     usize,
     usize,
@@ -203,7 +197,6 @@ type Check = unsafe extern "C" fn(
 ) -> usize;
 
 fn checked(check: Check, job: &Job, plan: &[u8]) -> Fault {
-    let carriers = job.carrier_bytes();
     let mut told = [0; 6];
     // SAFETY: each pointer comes with the length of the slice or vector that it is taken from, and `told` is written alone.
     unsafe {
@@ -212,8 +205,8 @@ fn checked(check: Check, job: &Job, plan: &[u8]) -> Fault {
             job.hall.len(),
             job.width,
             job.height,
-            carriers.as_ptr(),
-            carriers.len(),
+            job.carriers.as_ptr(),
+            job.carriers.len(),
             job.k,
             job.h,
             plan.as_ptr(),

@@ -144,6 +144,17 @@ fn refusals() {
         ),
         counted(4, 0, 0)
     );
+    let nine = carriers(&[(0, 1); 9]);
+    assert_eq!(
+        number(
+            &Job {
+                carriers: &nine,
+                ..good
+            },
+            8
+        ),
+        counted(4, 0, 0)
+    );
     let outside = carriers(&[(0, 1), (1, 3)]);
     let told = Told {
         number: 5,
@@ -180,6 +191,16 @@ fn refusals() {
     let mut short = Tables::for_records(8);
     short.layers.truncate(8);
     assert_eq!(plan(&good, 8, &mut short), counted(7, 0, 0));
+}
+
+/// As many carriers as a job may have, each one cell to the right: their records read one after the other are the plan.
+#[test]
+fn eight_records() {
+    let ends: Vec<(u8, u8)> = (0..8).map(|i| (2 * i, 2 * i + 1)).collect();
+    let told = planned(&job(16, 1, &carriers(&ends), 4, 1), 8);
+    assert_eq!(told.0, counted(0, 8, 1));
+    let wanted: Vec<u8> = (0..16).collect();
+    assert_eq!(told.1, wanted);
 }
 
 #[test]

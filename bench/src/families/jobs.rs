@@ -3,7 +3,7 @@
 use std::iter::repeat_with;
 
 use super::{CAPACITY, INPUTS};
-use crate::task::{PlanTask, Tables};
+use crate::task::{Carrier, PlanTask, Tables};
 use crate::yardstick::records::chain_of;
 use crate::yardstick::{BY_CELL, CLOSED, OPEN};
 use second::random::Random;
@@ -146,21 +146,21 @@ fn draw_deep_job(random: &mut Random) -> PlanTask {
 }
 
 /// So many different starts and so many different goals.
-fn draw_ends(random: &mut Random, cells: &[u8], carriers: usize) -> Vec<[u8; 2]> {
+fn draw_ends(random: &mut Random, cells: &[u8], carriers: usize) -> Vec<Carrier> {
     let mut starts = cells.to_vec();
     let mut goals = cells.to_vec();
     random.shuffle(&mut starts);
     random.shuffle(&mut goals);
     let ends = starts.into_iter().zip(goals).take(carriers);
-    ends.map(|(start, goal)| [start, goal]).collect()
+    ends.map(|(start, goal)| Carrier { start, goal }).collect()
 }
 
-fn task(shape: &Shape, hall: Vec<u8>, carriers: Vec<[u8; 2]>) -> PlanTask {
+fn task(shape: &Shape, hall: Vec<u8>, carriers: Vec<Carrier>) -> PlanTask {
     PlanTask {
         hall,
         width: shape.width,
         height: shape.height,
-        carriers: carriers.concat(),
+        carriers,
         k: shape.k,
         h: shape.h,
         n: CAPACITY,

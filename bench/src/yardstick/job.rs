@@ -2,7 +2,7 @@
 
 use super::floor::{CLOSED, OPEN};
 use super::records::MOST_RECORDS;
-use crate::task::{PlanTask, Tables, Told};
+use crate::task::{Carrier, PlanTask, Tables, Told};
 
 const MOST_SIDE: usize = 16;
 const MOST_DELAY: usize = 4;
@@ -49,17 +49,16 @@ fn right_limits(task: &PlanTask) -> bool {
 }
 
 fn wrong_ends(task: &PlanTask) -> Option<usize> {
-    let open = |&cell: &u8| task.hall.get(usize::from(cell)) == Some(&OPEN);
-    let carriers = task.carriers.as_chunks::<2>().0;
-    carriers.iter().position(|ends| !ends.iter().all(open))
+    let open = |cell: u8| task.hall.get(usize::from(cell)) == Some(&OPEN);
+    let mut carriers = task.carriers.iter();
+    carriers.position(|ends| !open(ends.start) || !open(ends.goal))
 }
 
 fn shared_ends(task: &PlanTask) -> Option<(usize, usize)> {
-    let carriers = task.carriers.as_chunks::<2>().0;
-    let share = |[a, b]: [u8; 2], [c, d]: [u8; 2]| a == c || b == d;
-    carriers.iter().enumerate().find_map(|(i, &ends)| {
-        let mut behind = carriers[i + 1..].iter();
-        let offset = behind.position(|&other| share(ends, other))?;
+    let share = |one: &Carrier, other: &Carrier| one.start == other.start || one.goal == other.goal;
+    task.carriers.iter().enumerate().find_map(|(i, ends)| {
+        let mut behind = task.carriers[i + 1..].iter();
+        let offset = behind.position(|other| share(ends, other))?;
         Some((i, i + 1 + offset))
     })
 }

@@ -201,13 +201,13 @@ impl Search<'_> {
 
     /// "the least step from which it is on its goal at every step up to H".
     fn cost(&self, node: usize, carrier: usize) -> usize {
-        let goal = self.task.carriers[2 * carrier + 1];
+        let goal = self.task.carriers[carrier].goal;
         let away = self.route(node, carrier).iter().rposition(|&c| c != goal);
         away.map_or(0, |step| step + 1)
     }
 
     fn ends(&self, carrier: usize) -> (usize, usize) {
-        let ends = &self.task.carriers[2 * carrier..];
-        (usize::from(ends[0]), usize::from(ends[1]))
+        let ends = self.task.carriers[carrier];
+        (usize::from(ends.start), usize::from(ends.goal))
     }
 }

@@ -8,7 +8,6 @@ use lib.Seq.{sets, sets-eq}
 use borrow.Author.Tests.{lt-ltb, le-ltb}
 use Rattle.job.specs.Job.{Job}
 use Rattle.job.specs.declared.Fault.{Fault}
-use Rattle.job.specs.declared.Told.{Told}
 use Rattle.tables.specs.Tables.{Tables}
 use Rattle.planner.specs.Answer.{planned, answerTold}
 use Rattle.planner.specs.Post.{Planned}
@@ -30,18 +29,16 @@ written-long values lent long =
 
 -- ---- the exported planner and checks
 
--- the planner's contract is about the team that the code made, which is that of the carriers' bytes
-pub answered : {r : ℕ} {after : Tables} {given : List ℕ} (right found : Job) (n : ℕ) (before : Tables) (lent : List ℕ) (answer : Answer) (values : Told)
-    → found ≡ right → Planned found n before answer after → values ≡ answerTold answer → r ≡ values .number → given ≡ written (toldValues values) lent
-    → Answered right n before lent r after given
-answered {r} {after} {given} right found n before lent answer values same made tells e f =
-    let p : Planned right n before answer after = subst (λ (j : Job). Planned j n before answer after) same made in
-    let is : values ≡ answerTold (planned right n before .answer) = tells ∙ ap answerTold (p .told) in
+-- the planner's contract, and the answer told
+pub answered : {r : ℕ} {after : Tables} {given : List ℕ} (job : Job) (n : ℕ) (before : Tables) (lent : List ℕ) (answer : Answer)
+    → Planned job n before answer after → (r ≡ answerTold answer .number) × (given ≡ written (toldValues (answerTold answer)) lent)
+    → Answered job n before lent r after given
+answered {r} {after} {given} job n before lent answer p tells =
     record {
-      number = e ∙ ap (λ (x : Told). x .number) is;
-      told = f ∙ ap (λ (x : Told). written (toldValues x) lent) is;
+      number = tells .0 ∙ ap (λ (x : Answer). answerTold x .number) (p .told);
+      told = tells .1 ∙ ap (λ (x : Answer). written (toldValues (answerTold x)) lent) (p .told);
       tables = p .tables;
-      promised = subst (λ (x : Answer). Promised right n before x after) (p .told) (p .promised);
+      promised = subst (λ (x : Answer). Promised job n before x after) (p .told) (p .promised);
     }
 
 pub checked : {r : ℕ} {after : List ℕ} (right found : Fault) (before : List ℕ) → found ≡ right → r ≡ found .number → after ≡ written (faultValues found) before → Checked right before r after

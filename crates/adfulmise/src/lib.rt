@@ -1,14 +1,19 @@
 // The planner, the two plan checks and the book reader for C and Rust: numbers and slices only. `include/adfulmise.h` says the
 // same for C. No function asks anything of its caller.
 use book::BookVerdict;
+use carriers::Carrier;
+use clashes::MeetingVerdict;
 use job::Fault;
 use job::Told;
+use planner::Answer;
+use routes::RouteVerdict;
 ghost use mathlib.Core.Path.{_≡_};
 ghost use Rattle.job.specs.Team.{jobOf};
-ghost use Rattle.carriers.specs.Lent.{bytesTeam};
+ghost use Rattle.carriers.specs.Lent.{recordsTeam};
 ghost use Rattle.routes.specs.Check.{routeVerdict, routeTold};
 ghost use Rattle.clashes.specs.Check.{meetingVerdict, meetingTold};
 ghost use Rattle.book.specs.Book.{askedVerdict, entryOffset};
+ghost use Rattle.planner.specs.Answer.{answerTold};
 ghost use Rattle.adfulmise.specs.Lent.{written, toldValues, faultValues, placeValues};
 ghost use Rattle.adfulmise.specs.Post.{Answered, Checked, Read};
 
@@ -33,14 +38,22 @@ fn write_told(values: Told, told: &mut [usize])
     told[4] = values.other;
 }
 
-// The planner. `carriers` has the start and the goal of each carrier in turn; `told` becomes number, sum, records, carrier and
-// other.
+// What an answer tells, and its number. It stands apart since only a function that is lent records has its proof by hand.
+fn tell_answer(answer: Answer, told: &mut [usize]) -> usize
+    ensures { λ r. ⌜ (r ≡ answerTold answer .number) × (now (told .exit) ≡ written (toldValues (answerTold answer)) (now (told .entry))) ⌝ }
+{
+    let values = told::answer_told(answer);
+    write_told(values, told);
+    values.number
+}
+
+// The planner; `told` becomes number, sum, records, carrier and other.
 #[no_mangle]
 pub extern "C" fn adfulmise_plan(
     hall: &[u8],
     width: usize,
     height: usize,
-    carriers: &[u8],
+    carriers: &[Carrier],
     k: usize,
     h: usize,
     n: usize,
@@ -50,14 +63,13 @@ pub extern "C" fn adfulmise_plan(
     output: &mut [u8],
     told: &mut [usize],
 ) -> usize
-    ensures { λ r. ⌜ Answered (jobOf width height (now (hall .entry)) (bytesTeam (now (carriers .entry))) k h) n (record { columns = now (columns .entry); plans = now (plans .entry); layers = now (layers .entry); output = now (output .entry) }) (now (told .entry)) r (record { columns = now (columns .exit); plans = now (plans .exit); layers = now (layers .exit); output = now (output .exit) }) (now (told .exit)) ⌝ }
+    ensures { λ r. ⌜ Answered (jobOf width height (now (hall .entry)) (recordsTeam (now (carriers .entry))) k h) n (record { columns = now (columns .entry); plans = now (plans .entry); layers = now (layers .entry); output = now (output .entry) }) (now (told .entry)) r (record { columns = now (columns .exit); plans = now (plans .exit); layers = now (layers .exit); output = now (output .exit) }) (now (told .exit)) ⌝ }
 {
-    let team = carriers::team_of_bytes(carriers);
-    let answer = planner::plan(
+    let answer = entry::plan(
         hall,
         width,
         height,
-        team,
+        carriers,
         k,
         h,
         n,
@@ -66,9 +78,7 @@ pub extern "C" fn adfulmise_plan(
         layers,
         output,
     );
-    let values = told::answer_told(answer);
-    write_told(values, told);
-    values.number
+    tell_answer(answer, told)
 }
 
 // A check's numbers, in the same way.
@@ -86,25 +96,39 @@ fn write_fault(fault: Fault, told: &mut [usize])
     told[5] = fault.swap;
 }
 
-// The route check. `carriers` has the start and the goal of each carrier in turn; `told` becomes number, carrier, other, step,
-// distance and 1 for a swap.
+// What a verdict tells, and its number.
+fn tell_routes(verdict: RouteVerdict, told: &mut [usize]) -> usize
+    ensures { λ r. ⌜ Checked (routeTold verdict) (now (told .entry)) r (now (told .exit)) ⌝ }
+{
+    let fault = told::route_told(verdict);
+    write_fault(fault, told);
+    fault.number
+}
+
+fn tell_meetings(verdict: MeetingVerdict, told: &mut [usize]) -> usize
+    ensures { λ r. ⌜ Checked (meetingTold verdict) (now (told .entry)) r (now (told .exit)) ⌝ }
+{
+    let fault = told::meeting_told(verdict);
+    write_fault(fault, told);
+    fault.number
+}
+
+// The route check; `told` becomes number, carrier, other, step, distance and 1 for a swap.
 #[no_mangle]
 pub extern "C" fn adfulmise_check_routes(
     hall: &[u8],
     width: usize,
     height: usize,
-    carriers: &[u8],
+    carriers: &[Carrier],
     k: usize,
     h: usize,
     plan: &[u8],
     told: &mut [usize],
 ) -> usize
-    ensures { λ r. ⌜ Checked (routeTold (routeVerdict (jobOf width height (now (hall .entry)) (bytesTeam (now (carriers .entry))) k h) (now (plan .entry)))) (now (told .entry)) r (now (told .exit)) ⌝ }
+    ensures { λ r. ⌜ Checked (routeTold (routeVerdict (jobOf width height (now (hall .entry)) (recordsTeam (now (carriers .entry))) k h) (now (plan .entry)))) (now (told .entry)) r (now (told .exit)) ⌝ }
 {
-    let team = carriers::team_of_bytes(carriers);
-    let fault = told::route_told(checks::check_routes(hall, width, height, team, k, h, plan));
-    write_fault(fault, told);
-    fault.number
+    let verdict = entry::check_routes(hall, width, height, carriers, k, h, plan);
+    tell_routes(verdict, told)
 }
 
 // The meeting check, in the same way.
@@ -113,18 +137,16 @@ pub extern "C" fn adfulmise_check_meetings(
     hall: &[u8],
     width: usize,
     height: usize,
-    carriers: &[u8],
+    carriers: &[Carrier],
     k: usize,
     h: usize,
     plan: &[u8],
     told: &mut [usize],
 ) -> usize
-    ensures { λ r. ⌜ Checked (meetingTold (meetingVerdict (jobOf width height (now (hall .entry)) (bytesTeam (now (carriers .entry))) k h) (now (plan .entry)))) (now (told .entry)) r (now (told .exit)) ⌝ }
+    ensures { λ r. ⌜ Checked (meetingTold (meetingVerdict (jobOf width height (now (hall .entry)) (recordsTeam (now (carriers .entry))) k h) (now (plan .entry)))) (now (told .entry)) r (now (told .exit)) ⌝ }
 {
-    let team = carriers::team_of_bytes(carriers);
-    let fault = told::meeting_told(checks::check_meetings(hall, width, height, team, k, h, plan));
-    write_fault(fault, told);
-    fault.number
+    let verdict = entry::check_meetings(hall, width, height, carriers, k, h, plan);
+    tell_meetings(verdict, told)
 }
 
 fn write_place(offset: usize, size: usize, place: &mut [usize])

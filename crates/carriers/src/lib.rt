@@ -46,7 +46,8 @@ pub fn team_of_bytes(bytes: &[u8]) -> Team
     }
 }
 
-// 'each a record of start cell and goal cell'
+// 'each a record of start cell and goal cell': two bytes in this order, as C has them too
+#[repr(C)]
 pub struct Carrier {
     pub start: u8,
     pub goal: u8,

@@ -1,19 +1,24 @@
 -- Wrong answers that the contracts of the entry points rule out, at document 01's jobs with their carriers lent as records: what the
--- planner and the checks below give there is known (`stars-hold`, and the broken checks of crate checks). Assumes nothing.
+-- planner and the checks below give there is known (`stars-hold`, and the broken checks of crate checks). Numbers handed on in each
+-- other's place are refuted at jobs of their own, where antt computes both verdicts. Assumes nothing.
 use Prim.Native.Nat.{ℕ}
 use native.Mathlib.Omega.{arith}
 use mathlib.Core.Path.{_≡_, sym, subst, ap, _∙_}
 use mathlib.Core.List.{List, [], _∷_, head-eq-of-cons-eq, tail-eq-of-cons-eq}
 use lib.ListN.{getD, replicate}
-use Rattle.lists.specs.Lists.{each}
-use Rattle.job.specs.Job.{Job}
+use Rattle.lists.specs.Lists.{range, only, keep, anyOf, firstOf, each, refuseIf}
+use Rattle.hall.specs.Hall.{wrongSide, wrongGrid, wrongByte, wrongBytes, isOpen}
+use Rattle.hall.specs.Moves.{onGrid, cellAt, landing, reachFrom, reach, mayFollow}
+use Rattle.job.specs.Job.{Job, wrongLimits, wrongCount, wrongEnds, firstWrong, share, pairs, firstShared}
 use Rattle.job.specs.Team.{jobOf}
+use Rattle.job.specs.Verdict.{endsVerdict, sharedVerdict, judgeWith, judge, ifAccepted}
 use Rattle.job.specs.Told.{counted}
 use Rattle.job.specs.declared.Told.{Told}
 use Rattle.tables.specs.Tables.{Tables}
-use Rattle.routes.specs.Check.{routeVerdict, routeTold}
+use Rattle.routes.specs.Check.{wrongMove, wrongArrival, wrongAt, places, firstWrongPlace, placeVerdict, planVerdict, routeVerdict, routeTold}
 use Rattle.routes.specs.declared.RouteVerdict.{RouteVerdict}
-use Rattle.clashes.specs.Check.{meetingVerdict, meetingTold}
+use Rattle.clashes.specs.Chosen.{written, meets, swaps, happens, overPairs, atStep, candidates, orClear, chosen}
+use Rattle.clashes.specs.Check.{planClash, compared, meetingVerdict, meetingTold}
 use Rattle.clashes.specs.declared.MeetingVerdict.{MeetingVerdict}
 use Rattle.checks.proofs.Broken.{followed, astray, standing, always-passes-routes, never-passes-routes, always-passes-meetings, never-passes-meetings}
 use Rattle.planner.specs.Answer.{planned, answerTold}
@@ -81,7 +86,7 @@ lent-nothing-written r after p never =
 
 -- ---- check_routes and check_meetings: width 3, height 1, 0→1 and 1→2, k 1, H 1; and one cell, 0→0, k 0, H 0
 
-abbrev lentCrossing : Job
+abbrev pub lentCrossing : Job
 lentCrossing = jobOf 3 1 (46 ∷ 46 ∷ 46 ∷ []) (recordsTeam (record { start = 0; goal = 1 } ∷ record { start = 1; goal = 2 } ∷ [])) 1 1
 
 abbrev lentCell : Job
@@ -98,3 +103,26 @@ lent-always-passes-meetings = always-passes-meetings
 
 pub lent-never-passes-meetings : (m : MeetingVerdict) → m ≡ meetingVerdict lentCell standing → (meetingTold m .number ≡ 0 → ⊥) → ⊥
 lent-never-passes-meetings = never-passes-meetings
+
+-- width 2, height 3, 0→2, k 0, H 1: two cells in one column, and in no column or row of a hall of width 3
+abbrev lentColumn : ℕ → ℕ → Job
+lentColumn width height = jobOf width height (replicate 6 46) (recordsTeam (record { start = 0; goal = 2 } ∷ [])) 0 1
+
+abbrev downward : List ℕ
+downward = 0 ∷ 2 ∷ []
+
+pub lent-width-and-height-exchanged : (r : RouteVerdict) → r ≡ routeVerdict (lentColumn 2 3) downward → r ≡ routeVerdict (lentColumn 3 2) downward → ⊥
+unfolding range only keep anyOf firstOf each wrongSide wrongGrid wrongByte wrongBytes isOpen onGrid cellAt landing reachFrom reach mayFollow wrongLimits wrongCount wrongEnds firstWrong share pairs firstShared refuseIf endsVerdict sharedVerdict judgeWith judge ifAccepted wrongMove wrongArrival wrongAt places firstWrongPlace placeVerdict planVerdict routeVerdict
+lent-width-and-height-exchanged r right wrong =
+    let z : _≡_ {A = ℕ} 0 21 = ap (λ (v : RouteVerdict). routeTold v .number) (sym right ∙ wrong) in
+    omega arith
+
+-- one cell, 0→0, k 0, H 5: a delay bound of 5 is refused
+abbrev lentStay : ℕ → ℕ → Job
+lentStay = jobOf 1 1 (46 ∷ []) (recordsTeam (record { start = 0; goal = 0 } ∷ []))
+
+pub lent-delay-and-horizon-exchanged : (m : MeetingVerdict) → m ≡ meetingVerdict (lentStay 0 5) (replicate 6 0) → m ≡ meetingVerdict (lentStay 5 0) (replicate 6 0) → ⊥
+unfolding range anyOf firstOf each wrongSide wrongGrid wrongByte wrongBytes isOpen wrongLimits wrongCount wrongEnds firstWrong share pairs firstShared refuseIf endsVerdict sharedVerdict judgeWith judge ifAccepted written meets swaps happens overPairs atStep candidates orClear chosen planClash compared meetingVerdict
+lent-delay-and-horizon-exchanged m right wrong =
+    let z : _≡_ {A = ℕ} 0 3 = ap (λ (v : MeetingVerdict). meetingTold v .number) (sym right ∙ wrong) in
+    omega arith
