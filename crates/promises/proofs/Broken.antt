@@ -111,7 +111,7 @@ second-given = ap (λ (l : List Seen). getD l 1 nothing) stars-hold
 -- ---- the tree's need leaves one number and one record count
 
 module _ (job : Job) (n : ℕ) (before : Tables) (need : ℕ) (end : Option Node) (told told′ : Told) (after after′ : Tables)
-  (b : ByNeed job n before need end told after) (b′ : ByNeed job n before need end told′ after′) where
+    (b : ByNeed job n before need end told after) (b′ : ByNeed job n before need end told′ after′) where
   ends-same : (o : Option Node) → end ≡ o → need ≤ n → told .number ≡ told′ .number
   ends-same none e l = b .none-left l e ∙ sym (b′ .none-left l e)
   ends-same (some node) e l = b .plan l node e .0 ∙ sym (b′ .plan l node e .0)
@@ -179,7 +179,7 @@ module _ (f : Function) where
 
   -- 'always 8 (demand 2: only if none exists)': the first job has a plan, the star's own
   pub always-eight : EightIsNone (by f) → ((job : Job) (n : ℕ) (before : Tables) → Runs job n before → f job n before .told .number ≡ 8) → ⊥
-  unfolding EightIsNone stars
+  unfolding EightIsNone ZeroIsLeast stars
   always-eight keeps always =
       let (rs, plan) = zero-is-least (starJob (starAt 0)) (starAt 0 .capacity) (starTables (starAt 0)) (given (starAt 0) .told) _ (ours (starAt 0)) (ap (λ (x : Seen). x .told .number) first-given) in
       keeps (starJob (starAt 0)) (starAt 0 .capacity) (starTables (starAt 0)) (at (starAt 0) .told) (at (starAt 0) .after) (refl, refl)
@@ -189,11 +189,11 @@ module _ (f : Function) where
 
 starts-there : (s : Star) → 0 < starJob s .count → (f : Function) → ZeroIsLeast (by f) → at f s .told .number ≡ 0 → planCell (starJob s) (at f s .after .output) 0 0 ≡ starJob s .startOf 0
 unfolding ZeroIsLeast
-starts-there s some f keeps zero =
+starts-there s one f keeps zero =
     let (rs, given) = keeps (starJob s) (s .capacity) (starTables s) (at f s .told) (at f s .after) (refl, refl) zero in
     ap (λ (l : List ℕ). planCell (starJob s) l 0 0) (given .written)
-    ∙ same-cells (starJob s) rs (given .plan) (starTables s .output) 0 0 some (omega arith)
-    ∙ given .plan .family .lawful 0 some .starts
+    ∙ same-cells (starJob s) rs (given .plan) (starTables s .output) 0 0 one (omega arith)
+    ∙ given .plan .family .lawful 0 one .starts
 
 module _ (f : Function) (keeps : ZeroIsLeast (by f)) where
   -- 'one fixed plan for every job (demand 2's routes and ends)': its first byte is always the same, but the first job starts on cell 3
@@ -217,7 +217,7 @@ module _ (f : Function) (keeps : ZeroIsLeast (by f)) where
 
 -- ---- 'one that grows the root's children and then only pretends (demand 2's least sum, demand 3's holds)'
 
--- in each child of the root of document 01's last job two carriers still meet
+-- the root of document 01's last job has one child (child two has no route), and there the two carriers exchange cells
 abbrev children : List Node
 children = each (kids (starJob lastJob)) (root (starJob lastJob))
 
@@ -226,7 +226,7 @@ handedBack kid = planWritten (starJob lastJob) (kid .routes) (starTables lastJob
 
 children-meet : Every (λ kid. meetingTold (meetingVerdict (starJob lastJob) (handedBack kid)) .number ≡ 22) children
 unfolding range sumTo only keep anyOf firstOf each Every wrongSide wrongGrid wrongByte wrongBytes isOpen onGrid cellAt landing reachFrom reach wrongLimits wrongCount wrongEnds firstWrong share pairs firstShared refuseIf endsVerdict sharedVerdict judgeWith judge ifAccepted stepCost cost barsFor barsCell barsWay mayStand mayTurn cheaper better bestOf inFront bestWay bestRoute written meets swaps happens overPairs atStep candidates orClear chosen planClash compared meetingVerdict planWritten routeUnder withRoute freeRoutes rootOf root clashOf barOne barTwo childWith child kidsFor kids lastJob
-children-meet = (refl, refl, tt)
+children-meet = (refl, tt)
 
 -- so to hand back the routes of one, with whatever records, contradicts 'apart'
 pub only-children-grown : (f : Function) → ZeroIsLeast (by f) → (kid : Node) → List·Memᴰ kid children → at f lastJob .told .number ≡ 0 → at f lastJob .after .output ≡ handedBack kid → ⊥

@@ -147,13 +147,18 @@ module _ (job : Job) (plan : List ℕ) (accepted : IsAccepted job) (long : planL
       let zero : routeTold (routeVerdict job plan) .number ≡ 0 = ap (λ v. routeTold v .number) (route-verdict job plan accepted long ∙ ap placeVerdict (sym e)) in
       inl (zero-is-lawful job plan zero .1, refl)
   found (some p) e fact least =
-      inr (p .carrier, p .step, record {
-        carrier = fact .1 .0;
-        step = fact .1 .1;
-        wrong = is-true (fact .0);
-        first = λ j s lj ls w.
-            every-member (λ q. T (wrong job (planCell job plan) q) → NotAfter p q) (places (job .count) (job .horizon)) least (listed job (planCell job plan) j s lj ls) (of-true w);
-      }, refl)
+      inr (
+        p .carrier,
+        p .step,
+        record {
+          carrier = fact .1 .0;
+          step = fact .1 .1;
+          wrong = is-true (fact .0);
+          first = λ j s lj ls w.
+              every-member (λ q. T (wrong job (planCell job plan) q) → NotAfter p q) (places (job .count) (job .horizon)) least (listed job (planCell job plan) j s lj ls) (of-true w);
+        },
+        refl,
+      )
 
   first-found : Found (firstWrongPlace job (planCell job plan))
   unfolding firstWrongPlace

@@ -263,7 +263,7 @@ unfolding LeastOfTheSafe
 least-of-the-safe job n before told after p e = let (rs, plan, safe) = zero-given job n before told after p e in (rs, safe)
 
 pub output-passes : OutputPasses OurPlanner OurRoutes OurMeetings
-unfolding OutputPasses
+unfolding OutputPasses ZeroIsLeast
 output-passes job n before told after r m p e routes meetings =
     let (rs, given) = zero-is-least job n before told after p e in
     let passes : Passes job (after .output) = rw (given .written) (written-passes job rs (given .plan) (before .output) (checks-exactly job .1 (right-given job n before told after p e))) in

@@ -18,13 +18,13 @@ long-exact job n ts =
     let c : Bool = ltb (length (ts .layers)) (layersLength job) in
     let d : Bool = ltb (length (ts .output)) (planLength job) in (
       λ e. let (x, y) = or-fails (a || b) (c || d) e in
-      let (w, p) = or-fails a b x in
-      let (l, o) = or-fails c d y in
-      record {
-        columns = ltb-false (length (ts .columns)) (columnsLength n) w;
-        plans = ltb-false (length (ts .plans)) (plansLength job n) p;
-        layers = ltb-false (length (ts .layers)) (layersLength job) l;
-        output = ltb-false (length (ts .output)) (planLength job) o;
-      },
+          let (w, p) = or-fails a b x in
+          let (l, o) = or-fails c d y in
+          record {
+            columns = ltb-false (length (ts .columns)) (columnsLength n) w;
+            plans = ltb-false (length (ts .plans)) (plansLength job n) p;
+            layers = ltb-false (length (ts .layers)) (layersLength job) l;
+            output = ltb-false (length (ts .output)) (planLength job) o;
+          },
       λ r. rw (le-ltb (length (ts .columns)) (columnsLength n) (r .columns), le-ltb (length (ts .plans)) (plansLength job n) (r .plans), le-ltb (length (ts .layers)) (layersLength job) (r .layers), le-ltb (length (ts .output)) (planLength job) (r .output)) refl,
     )
