@@ -10,17 +10,17 @@ use lib.Dec.{eqb}
 use lib.ListN.{length, length-drop}
 use Rattle.lists.proofs.Tests.{or-fails}
 use Rattle.book.specs.declared.BookVerdict.the-variants.{Good}
-use Rattle.book.specs.Book.{entryLength, entryBody, wrongHall, wrongCarriers, wrongLimits, wrongLengths, bookVerdict, bodyOf}
+use Rattle.book.specs.Book.{entryLength, entryBody, hallUnderTwo, carriersOdd, limitsNotTwo, wrongLengths, bookVerdict, bodyOf}
 use Rattle.book.specs.Parts.{hallIn, countIn}
 use Rattle.book.proofs.Verdicts.{good-passed, asked-three, good-body}
 use Rattle.book.proofs.Bodies.{good-consecutive, body-length}
 
 lengths-passed : (book : List ℕ) → wrongLengths book ≡ false
-    → (wrongHall (entryBody book 1) ≡ false) × (wrongCarriers (entryBody book 2) ≡ false) × (wrongLimits (entryBody book 3) ≡ false)
+    → (hallUnderTwo (entryBody book 1) ≡ false) × (carriersOdd (entryBody book 2) ≡ false) × (limitsNotTwo (entryBody book 3) ≡ false)
 unfolding wrongLengths
 lengths-passed book e =
-    let h = or-fails (wrongHall (entryBody book 1) || wrongCarriers (entryBody book 2)) (wrongLimits (entryBody book 3)) e in
-    let k = or-fails (wrongHall (entryBody book 1)) (wrongCarriers (entryBody book 2)) (h .0) in
+    let h = or-fails (hallUnderTwo (entryBody book 1) || carriersOdd (entryBody book 2)) (limitsNotTwo (entryBody book 3)) e in
+    let k = or-fails (hallUnderTwo (entryBody book 1)) (carriersOdd (entryBody book 2)) (h .0) in
     (k .0, k .1, h .1)
 
 module _ (book : List ℕ) (e : bookVerdict book ≡ Good) where
@@ -28,7 +28,7 @@ module _ (book : List ℕ) (e : bookVerdict book ≡ Good) where
   pub asked-length : (n : ℕ) → 1 ≤ n → n ≤ 3 → length (bodyOf book n) ≡ entryLength book n
   asked-length n l h = ap length (good-body book n (asked-three book n e l h)) ∙ body-length book (good-consecutive book e) n l h
 
-  tests : (wrongHall (entryBody book 1) ≡ false) × (wrongCarriers (entryBody book 2) ≡ false) × (wrongLimits (entryBody book 3) ≡ false)
+  tests : (hallUnderTwo (entryBody book 1) ≡ false) × (carriersOdd (entryBody book 2) ≡ false) × (limitsNotTwo (entryBody book 3) ≡ false)
   tests = lengths-passed book (good-passed book e .3)
 
   pub hall-whole : length (bodyOf book 1) ≡ 2 + length (hallIn (bodyOf book 1))

@@ -93,17 +93,17 @@ wrongBodies book =
     || not (eqb (bodyEnd book 3) (length book))
 
 -- 14: 'hall body under 2 bytes, carriers body of odd length, or limits body not 2 bytes'
-abbrev pub wrongHall : List ℕ → Bool
-wrongHall body = ltb (length body) 2
+abbrev pub hallUnderTwo : List ℕ → Bool
+hallUnderTwo body = ltb (length body) 2
 
-abbrev pub wrongCarriers : List ℕ → Bool
-wrongCarriers body = eqb (length body % 2) 1
+abbrev pub carriersOdd : List ℕ → Bool
+carriersOdd body = eqb (length body % 2) 1
 
-abbrev pub wrongLimits : List ℕ → Bool
-wrongLimits body = not (eqb (length body) 2)
+abbrev pub limitsNotTwo : List ℕ → Bool
+limitsNotTwo body = not (eqb (length body) 2)
 
 unfoldable pub wrongLengths : List ℕ → Bool
-wrongLengths book = wrongHall (entryBody book 1) || wrongCarriers (entryBody book 2) || wrongLimits (entryBody book 3)
+wrongLengths book = hallUnderTwo (entryBody book 1) || carriersOdd (entryBody book 2) || limitsNotTwo (entryBody book 3)
 
 -- 'Reader answers, lowest first': 11 to 14
 unfoldable pub bookVerdict : List ℕ → BookVerdict

@@ -5,7 +5,7 @@ ghost use mathlib.Core.Bool.{false};
 ghost use Prim.Native.Nat.{_+_, _<_, _≤_};
 ghost use lib.ListN.{length};
 ghost use Rattle.lists.specs.Lists.{refuseIf};
-ghost use Rattle.book.specs.Book.{bookNumber, entryAt, lowHigh, entryKind, entryOffset, entryLength, bodyEnd, wrongKinds, wrongBodies, wrongHall, wrongCarriers, wrongLimits, wrongLengths, noKind, bookVerdict, askedVerdict};
+ghost use Rattle.book.specs.Book.{bookNumber, entryAt, lowHigh, entryKind, entryOffset, entryLength, bodyEnd, wrongKinds, wrongBodies, hallUnderTwo, carriersOdd, limitsNotTwo, wrongLengths, noKind, bookVerdict, askedVerdict};
 ghost use Rattle.book.specs.Handed.{Handed};
 
 // What the reader says, the lowest number first.
@@ -135,19 +135,19 @@ fn wrong_bodies(book: &[u8]) -> bool
 
 // 14: 'hall body under 2 bytes, carriers body of odd length, or limits body not 2 bytes', a parser for each body
 fn hall_body_wrong(body: &[u8]) -> bool
-    ensures { λ r. ⌜ r ≡ wrongHall (now (body .entry)) ⌝ }
+    ensures { λ r. ⌜ r ≡ hallUnderTwo (now (body .entry)) ⌝ }
 {
     body.len() < HALL_LEAST
 }
 
 fn carriers_body_wrong(body: &[u8]) -> bool
-    ensures { λ r. ⌜ r ≡ wrongCarriers (now (body .entry)) ⌝ }
+    ensures { λ r. ⌜ r ≡ carriersOdd (now (body .entry)) ⌝ }
 {
     body.len() % 2 == 1
 }
 
 fn limits_body_wrong(body: &[u8]) -> bool
-    ensures { λ r. ⌜ r ≡ wrongLimits (now (body .entry)) ⌝ }
+    ensures { λ r. ⌜ r ≡ limitsNotTwo (now (body .entry)) ⌝ }
 {
     body.len() != LIMITS_LENGTH
 }

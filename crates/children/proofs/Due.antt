@@ -12,7 +12,6 @@ use Rattle.lent.proofs.Keeping.{same-from}
 use Rattle.job.specs.Job.{Job, planLength}
 use Rattle.routes.specs.Bars.{Barred}
 use Rattle.routes.specs.declared.Bar.{Bar}
-use Rattle.routes.specs.declared.Bar.the-variants.{Free, Stay, Cross}
 use Rattle.records.specs.Columns.{isBar}
 use Rattle.marks.specs.Marks.{boundBy}
 use Rattle.tables.specs.State.{Sound}
@@ -22,25 +21,13 @@ use Rattle.lists.proofs.Parts.{part-within}
 use Rattle.children.specs.declared.Task.{Task}
 use Rattle.children.specs.declared.Grown.{Grown}
 use Rattle.children.specs.declared.Grown.the-variants.{Nothing, Made, Full}
-use Rattle.children.specs.Steps.{jobOn, Ready, Kept, BarSet, ChildFact}
+use Rattle.children.specs.Steps.{jobOn, Ready, Kept, ChildFact}
 use Rattle.children.specs.Written.{routeOn, putRoute, sumIn, copiedPlans, ChildWritten, ChildTables}
 use Rattle.children.specs.Children.{RouteSought, ChildDue, ChildMade}
 use Rattle.children.proofs.Keeping.{stretch-within, put-kept, recorded-kept, ready-still}
 use Rattle.children.proofs.Routing.{not-found, was-found}
 use Rattle.children.proofs.Seeking.{sum-in, sum-small}
 use Rattle.children.proofs.Grows.{copied-keeps, now-keeps, grown, not-grown, no-record}
-
-pub set-fits : (bar : Bar) → BarSet bar → BarFits bar
-unfolding BarSet BarFits
-set-fits Free h = tt
-set-fits (Stay v a b) h = h
-set-fits (Cross u v t) h = h
-
-pub set-bars : (bar : Bar) → BarSet bar → isBar bar ≡ true
-unfolding BarSet isBar
-set-bars Free h = absurd h
-set-bars (Stay v a b) h = refl
-set-bars (Cross u v t) h = refl
 
 -- ---- the child takes its record
 

@@ -10,8 +10,9 @@ use Rattle.job.specs.Job.{Job}
 use Rattle.job.specs.Team.{jobOf}
 use Rattle.routes.specs.Bars.{Barred}
 use Rattle.routes.specs.declared.Bar.{Bar}
-use Rattle.routes.specs.declared.Bar.the-variants.{Free, Stay, Cross}
+use Rattle.records.specs.Columns.{isBar}
 use Rattle.tree.specs.Tree.{root, child}
+use Rattle.tables.specs.Post.{BarFits}
 use Rattle.tables.specs.State.{nodeAt, live, Sound}
 use Rattle.tables.specs.Tables.{columnsLength, plansLength, layersLength}
 use Rattle.children.specs.declared.Task.{Task}
@@ -45,10 +46,8 @@ pub record Kept (task : Task) (bytes columns plans layers columns' plans' layers
   pub layers-kept : SameFrom (layersLength (jobOn task bytes)) layers layers'
 
 -- a bar of rule 6, whose numbers fit a record
-unfoldable pub BarSet : Bar → Type 0
-BarSet Free = ⊥
-BarSet (Stay v a b) = (v < 65536) × (a < 65536) × (b < 65536)
-BarSet (Cross u v t) = (u < 65536) × (v < 65536) × (t < 65536)
+abbrev pub BarSet : Bar → Type 0
+BarSet bar = BarFits bar × (isBar bar ≡ true)
 
 -- one child of node x with bar b, after rule 7
 unfoldable pub ChildFact : Job → ℕ → ℕ → Barred → ℕ → List ℕ → List ℕ → List ℕ → List ℕ → Grown → Type 0

@@ -4,13 +4,13 @@ use Prim.Native.Nat.{ℕ, _+_, _-_, _*_, _/_, _%_, _≤_, _<_}
 use native.Mathlib.Nat.{mul-le-mul}
 use native.Mathlib.Omega.{arith}
 use mathlib.Core.Path.{_≡_, refl, sym, ap, _∙_}
-use mathlib.Core.Bool.{Bool, true, false, not, _&&_}
+use mathlib.Core.Bool.{Bool, true, false, not, _&&_, and-false}
 use lib.Dec.{eqb, ltb, leb, ltb→lt, leb→le}
 use lib.ListN.{length, getD, List·getD-eq-default}
 use borrow.Author.Tests.{lt-ltb, le-ltb, eq-eqb, ne-eqb}
 use Rattle.lists.specs.Lists.{only, anyOf}
 use Rattle.lists.proofs.Passing.{any-kept}
-use Rattle.lists.proofs.Tests.{of-true, and-both, and-false}
+use Rattle.lists.proofs.Tests.{of-true, and-both}
 use Rattle.hall.specs.Hall.{Hall, size, wrongByte, wrongBytes, isOpen}
 use Rattle.hall.specs.Moves.{rowAfter, colAfter, onGrid, cellAt, landing, reachFrom, reach, mayFollow}
 use Rattle.hall.specs.Landing.{landed}

@@ -19,14 +19,14 @@ use Rattle.layers.proofs.CellLaws.{step-arrives, step-more, step-small,
 -- ---- one move
 
 -- where the entry of a move lies, with the changes d and r of row and column
-pub record Near (width under m d r : ℕ) : Type 0 where
+pub record NearPlace (width under m d r : ℕ) : Type 0 where
   pub down : width * d ≤ width + width
   pub right : r ≤ 2
   pub low : width + 1 ≤ under + width * d + r
   pub high : under + width * d + r - (width + 1) ≤ under + width
   pub entry : under + width * d + r - (width + 1) ≡ nearEntry width under m
 
-near-at : (width under m : ℕ) → m < moveCount → 1 ≤ width → width ≤ under → Near width under m (getD rowChanges m 1) (getD colChanges m 1)
+near-at : (width under m : ℕ) → m < moveCount → 1 ≤ width → width ≤ under → NearPlace width under m (getD rowChanges m 1) (getD colChanges m 1)
 unfolding nearEntry
 near-at width under zero h i j = record { down = omega arith; right = omega arith; low = omega arith; high = omega arith; entry = refl }
 near-at width under (suc zero) h i j = record { down = omega arith; right = omega arith; low = omega arith; high = omega arith; entry = refl }
@@ -35,7 +35,7 @@ near-at width under (suc (suc (suc zero))) h i j = record { down = omega arith; 
 near-at width under (suc (suc (suc (suc zero)))) h i j = record { down = omega arith; right = omega arith; low = omega arith; high = omega arith; entry = refl }
 near-at width under (suc (suc (suc (suc (suc m))))) h i j = absurd (omega arith)
 
-pub near-facts : (width under m d r : ℕ) → m < moveCount → 1 ≤ width → width ≤ under → d ≡ getD rowChanges m 1 → r ≡ getD colChanges m 1 → Near width under m d r
+pub near-facts : (width under m d r : ℕ) → m < moveCount → 1 ≤ width → width ≤ under → d ≡ getD rowChanges m 1 → r ≡ getD colChanges m 1 → NearPlace width under m d r
 near-facts width under m d r h i j e k = rw (e, k) (near-at width under m h i j)
 
 -- where a row lies below, all five lie within

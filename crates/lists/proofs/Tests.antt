@@ -1,5 +1,5 @@
 -- The tests of the definitions as facts: one law each way for each of `&&`, `||` and `not`, by cases on the tests. For `not` they
--- are the kit's `T-not` and `not-T`. Some equations of tests at the end. Assumes nothing.
+-- are the kit's `T-not` and `not-T`. Tests that are equal at the end. Assumes nothing.
 use Prim.Native.Nat.{ℕ}
 use native.Mathlib.Decide.{ℕ-discrete}
 use mathlib.Core.Path.{_≡_, refl, sym, subst, _∙_}
@@ -68,14 +68,6 @@ same-test {a = true} {b = true} f g = refl
 same-test {a = true} {b = false} f g = absurd (f tt)
 same-test {a = false} {b = true} f g = absurd (g tt)
 same-test {a = false} {b = false} f g = refl
-
-pub and-false : (a : Bool) → (a && false) ≡ false
-and-false true = refl
-and-false false = refl
-
-pub and-or : (a b c : Bool) → (a && (b || c)) ≡ (a && b || a && c)
-and-or true b c = refl
-and-or false b c = refl
 
 pub eqb-turned : (a b : ℕ) → eqb a b ≡ eqb b a
 eqb-turned a b = elim (ℕ-discrete a b) [ yes e ↦ eq-eqb a b e ∙ sym (eq-eqb b a (sym e)) | no n ↦ ne-eqb a b n ∙ sym (ne-eqb b a (λ e. n (sym e))) ]

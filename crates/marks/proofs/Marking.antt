@@ -3,13 +3,13 @@
 use Prim.Native.Nat.{ℕ, _/_, _%_, _≤_, _<_}
 use native.Mathlib.Decide.{ℕ-discrete}
 use mathlib.Core.Path.{_≡_, refl, sym, ap, _∙_}
-use mathlib.Core.Bool.{Bool, true, false, _&&_, _||_}
+use mathlib.Core.Bool.{Bool, true, false, _&&_, _||_, and-false, and-or-distrib-left}
 use mathlib.Core.List.{List, [], _∷_}
 use borrow.Author.Tests.{eq-eqb, le-leb}
 use lib.Dec.{eqb, leb, eqb→eq, leb→le}
 use Rattle.lists.specs.Lists.{anyOf, sumTo}
 use Rattle.lists.proofs.Passing.{any-only, any-cons}
-use Rattle.lists.proofs.Tests.{is-false, and-both, and-false, and-or, eqb-turned}
+use Rattle.lists.proofs.Tests.{is-false, and-both, eqb-turned}
 use Rattle.hall.specs.Moves.{rowAfter, colAfter, onGrid, cellAt, landing, moveCount}
 use Rattle.routes.specs.Bars.{barsCell, barsWay}
 use Rattle.routes.specs.declared.Bar.{Bar}
@@ -53,7 +53,7 @@ module _ (width height : ℕ) where
       let g = onGrid width height (rowAfter (v / width) m) (colAfter (v % width) m) in
       let w = cellAt width (rowAfter (v / width) m) (colAfter (v % width) m) in
       rw (any-only (λ w. anyOf (barsWay t v w) (b ∷ bars)) g w, any-only (λ w. barsWay t v w b) g w, any-only (λ w. anyOf (barsWay t v w) bars) g w, any-cons (barsWay t v w) b bars)
-      (and-or g (barsWay t v w b) (anyOf (barsWay t v w) bars))
+      (and-or-distrib-left g (barsWay t v w b) (anyOf (barsWay t v w) bars))
 
   -- ---- one bar more
 

@@ -16,14 +16,16 @@ use Rattle.clashes.specs.declared.Clash.the-variants.{Meeting, Swap}
 use Rattle.clashes.specs.First.{ChosenFact}
 use Rattle.clashes.proofs.Chosen.{chosen-fact}
 use Rattle.clashes.proofs.Same.{chosen-same}
+use Rattle.records.specs.Columns.{isBar}
 use Rattle.tree.specs.Plan.{cellsOf}
 use Rattle.tree.specs.Tree.{Node, clashOf}
+use Rattle.tables.specs.Post.{BarFits}
 use Rattle.tables.specs.State.{routesIn, stretchAt, nodeAt, Sound}
 use Rattle.tables.proofs.Costs.{route-in}
 use Rattle.tables.proofs.Stretches.{route-at}
 use Rattle.planner.specs.declared.Bars.{Bars}
 use Rattle.children.specs.declared.Task.{Task}
-use Rattle.children.specs.Steps.{jobOn, Ready, BarSet}
+use Rattle.children.specs.Steps.{jobOn, Ready}
 use Rattle.planner.specs.Steps.{jobIn, Placed, stayBars, crossBars, BarsFit}
 
 -- ---- where a node stands in the plans
@@ -51,14 +53,14 @@ module _ (task : Task) (plans : List ℕ) (x : ℕ) (p : Placed task plans x) (s
 -- the numbers of the bars fit their columns
 module _ (task : Task) (bars : Bars) (i j : ℕ) (one-in : i < task .team .count) (two-in : j < task .team .count) where
   pub stays-fit : (v t : ℕ) → bars ≡ stayBars i j v t (task .delay) → v < 256 → t ≤ 63 → task .delay ≤ 4 → BarsFit task bars
-  unfolding BarSet
+  unfolding BarFits isBar
   stays-fit v t e cell step delay =
-      rw e (record { i-inside = one-in; j-inside = two-in; one-fits = (omega arith, omega arith, omega arith); two-fits = (omega arith, omega arith, omega arith) })
+      rw e (record { i-inside = one-in; j-inside = two-in; one-fits = ((omega arith, omega arith, omega arith), refl); two-fits = ((omega arith, omega arith, omega arith), refl) })
 
   pub crosses-fit : (u v t : ℕ) → bars ≡ crossBars i j u v t → u < 256 → v < 256 → t ≤ 63 → BarsFit task bars
-  unfolding BarSet
+  unfolding BarFits isBar
   crosses-fit u v t e from to step =
-      rw e (record { i-inside = one-in; j-inside = two-in; one-fits = (omega arith, omega arith, omega arith); two-fits = (omega arith, omega arith, omega arith) })
+      rw e (record { i-inside = one-in; j-inside = two-in; one-fits = ((omega arith, omega arith, omega arith), refl); two-fits = ((omega arith, omega arith, omega arith), refl) })
 
 -- ---- cells
 

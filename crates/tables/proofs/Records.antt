@@ -12,7 +12,7 @@ use Rattle.lists.proofs.Parts.{same-place}
 use Rattle.routes.specs.declared.Bar.{Bar}
 use Rattle.routes.specs.declared.Bar.the-variants.{Free, Stay, Cross}
 use Rattle.records.specs.Columns.{entry, barFrom, barAt}
-use Rattle.tables.specs.Post.{codeOf, BarFits, Filled, Recorded}
+use Rattle.tables.specs.Post.{codeOf, BarFits, Entered, Recorded}
 use Rattle.tables.specs.declared.Code.{Code}
 
 -- ---- places
@@ -28,11 +28,11 @@ earlier-column capacity c d x hx h = digits-lt h hx
 -- ---- a record filled, one column more
 
 module _ (capacity : ℕ) (before : List ℕ) (x : ℕ) (values : List ℕ) where
-  pub filled-none : Filled capacity before x values 0 before
-  filled-none = record { here = λ c l. absurd (omega arith); others = λ c y l ne. refl; long = refl; tail = refl }
+  pub entered-none : Entered capacity before x values 0 before
+  entered-none = record { here = λ c l. absurd (omega arith); others = λ c y l ne. refl; long = refl; tail = refl }
 
-  pub filled-more : (n : ℕ) (after : List ℕ) → n < 8 → x < capacity → 8 * capacity ≤ length before → Filled capacity before x values n after → Filled capacity before x values (n + 1) (set after (n * capacity + x) (getD values n 0))
-  filled-more n after small inside room f =
+  pub entered-more : (n : ℕ) (after : List ℕ) → n < 8 → x < capacity → 8 * capacity ≤ length before → Entered capacity before x values n after → Entered capacity before x values (n + 1) (set after (n * capacity + x) (getD values n 0))
+  entered-more n after small inside room f =
       let place : n * capacity + x < 8 * capacity = earlier-column capacity n 8 x inside small in
       record {
         here =
@@ -44,8 +44,8 @@ module _ (capacity : ℕ) (before : List ℕ) (x : ℕ) (values : List ℕ) wher
         tail = drop-set-lt (8 * capacity) after (n * capacity + x) (getD values n 0) place ∙ f .tail;
       }
 
-  pub filled-all : (n : ℕ) (after : List ℕ) → n ≤ 8 → 8 ≤ n → Filled capacity before x values n after → Filled capacity before x values 8 after
-  filled-all n after l k f = let e : n ≡ 8 = omega arith in subst (λ (m : ℕ). Filled capacity before x values m after) e f
+  pub entered-all : (n : ℕ) (after : List ℕ) → n ≤ 8 → 8 ≤ n → Entered capacity before x values n after → Entered capacity before x values 8 after
+  entered-all n after l k f = let e : n ≡ 8 = omega arith in subst (λ (m : ℕ). Entered capacity before x values m after) e f
 
 -- ---- a bar in numbers
 
@@ -73,7 +73,7 @@ code-fits bar code e h = subst CodeFits (sym e) (code-fits-16 bar h)
 
 -- ---- the record of an open node
 
-pub recorded : (capacity : ℕ) (before : List ℕ) (x parent carrier : ℕ) (bar : Bar) (sum : ℕ) (code : Code) (after : List ℕ) → code ≡ codeOf bar → Filled capacity before x (parent ∷ code .kind ∷ carrier ∷ code .first ∷ code .second ∷ code .third ∷ sum ∷ 1 ∷ []) 8 after → Recorded capacity before x parent carrier bar sum after
+pub recorded : (capacity : ℕ) (before : List ℕ) (x parent carrier : ℕ) (bar : Bar) (sum : ℕ) (code : Code) (after : List ℕ) → code ≡ codeOf bar → Entered capacity before x (parent ∷ code .kind ∷ carrier ∷ code .first ∷ code .second ∷ code .third ∷ sum ∷ 1 ∷ []) 8 after → Recorded capacity before x parent carrier bar sum after
 unfolding barAt
 recorded capacity before x parent carrier bar sum code after e f =
     record {

@@ -48,7 +48,7 @@ pub record Fitting (parent carrier : ℕ) (bar : Bar) (sum : ℕ) : Type 0 where
   pub sum-fits : sum < 65536
 
 -- the columns after, whose first n entries of node x are the values, and which are otherwise as before
-pub record Filled (capacity : ℕ) (before : List ℕ) (x : ℕ) (values : List ℕ) (n : ℕ) (after : List ℕ) : Type 0 where
+pub record Entered (capacity : ℕ) (before : List ℕ) (x : ℕ) (values : List ℕ) (n : ℕ) (after : List ℕ) : Type 0 where
   pub here : (c : ℕ) → c < n → entry capacity after c x ≡ getD values c 0
   pub others : (c y : ℕ) → y < capacity → (y ≡ x → ⊥) → entry capacity after c y ≡ entry capacity before c y
   pub long : length after ≡ length before

@@ -6,7 +6,7 @@ ghost use mathlib.Core.Path.{_≡_};
 ghost use lib.ListN.{length, getD, set};
 ghost use Rattle.lists.specs.Lists.{sumTo};
 ghost use Rattle.routes.specs.Route.{cost, routeIn};
-ghost use Rattle.tables.specs.Post.{Room, LeastFact, codeOf, Fitting, Filled, Recorded};
+ghost use Rattle.tables.specs.Post.{Room, LeastFact, codeOf, Fitting, Entered, Recorded};
 
 // 'Record columns, 16-bit': the parent, the kind of bar, the barred carrier, three numbers of the bar, the sum, and whether
 // the node is open. Column after column, each with an entry for each of the N nodes.
@@ -102,7 +102,7 @@ pub fn code_of(bar: Bar) -> Code
 // The eight entries of a node, a value for each column.
 fn fill_record(columns: &mut [u16], capacity: usize, node: usize, values: [u16; 8])
     requires { ⌜ Room capacity (now columns) node ⌝ }
-    ensures { λ r. ⌜ Filled capacity (now (columns .entry)) node values 8 (now (columns .exit)) ⌝ }
+    ensures { λ r. ⌜ Entered capacity (now (columns .entry)) node values 8 (now (columns .exit)) ⌝ }
 {
     for column in 0..COLUMNS {
         columns[column * capacity + node] = values[column];

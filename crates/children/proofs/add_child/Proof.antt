@@ -1,7 +1,7 @@
 -- By the cases: no route, a route and no record for it, or a child that is due. Assumes nothing.
 use borrow.Author.Tests.{not-true, not-false}
 use Rattle.children.proofs.Keeping.{sound-falls}
-use Rattle.children.proofs.Due.{none-due, full-due, child-done, child-due, set-fits, set-bars}
+use Rattle.children.proofs.Due.{none-due, full-due, child-done, child-due}
 use borrow.Author.Needs.{needs}
 use Rattle.children.proofs.add_child.Statement.{statement}
 use Rattle.children.proofs.add_child.Tie as tie
@@ -28,7 +28,7 @@ returns-2 : tie.Need-returns-2
 returns-2 c = full-due (c .before .before .before .before .before .before .before .before .before .before .before .before .args .task) (c .before .before .before .before .before .before .before .before .before .before .before .before .args .hall .now) (c .before .before .before .before .before .before .before .before .before .before .before .before .args .columns .now) (c .before .before .before .before .before .before .before .before .before .before .before .before .args .plans .now) (c .before .before .before .before .before .before .before .before .before .before .before .before .args .layers .now) (c .before .before .before .before .before .has-route .last .1 .1 .1 .1 .1 .1 .0) (c .before .before .before .before .before .before .before .before .before .before .before .before .args .node) (c .before .before .before .before .before .before .before .before .before .before .before .before .args .carrier) (c .before .before .before .before .before .before .before .before .before .before .before .before .args .bar) (c .before .before .before .before .before .has-route .result) (c .before .before .before .before .before .has-route .ensures) (c .before .before .before .before .before .before .before .before .before .before .before .before .args .made) (not-false (c .before .before .before .before .before .has-route .result) (c .before .before .if1 .left)) (c .if2 .taken)
 
 make-child-requires : tie.Need-make-child-requires
-make-child-requires c κs = child-due (c .before .before .before .before .before .before .before .before .before .before .before .before .before .before .before .args .task) (c .before .before .before .before .before .before .before .before .before .before .before .before .before .before .before .args .hall .now) (c .before .before .before .before .before .before .before .before .before .before .before .before .before .before .before .args .columns .now) (c .before .before .before .before .before .before .before .before .before .before .before .before .before .before .before .args .plans .now) (c .before .before .before .before .before .before .before .before .before .before .before .before .before .before .before .args .layers .now) (c .before .before .before .before .before .before .before .before .has-route .last .1 .1 .1 .1 .1 .1 .0) (c .before .before .before .before .before .before .before .before .before .before .before .before .before .before .before .args .node) (c .before .before .before .before .before .before .before .before .before .before .before .before .before .before .before .args .carrier) (c .before .before .before .before .before .before .before .before .before .before .before .before .before .before .before .args .bar) (c .before .before .before .before .before .before .before .before .has-route .result) (c .before .before .before .before .before .before .before .before .has-route .ensures) (c .before .before .before .before .before .before .before .before .before .before .before .before .before .before .before .args .made) (c .before .before .before .before .before .before .before .before .before .before .before .before .before .before .before .pre .0) (c .before .before .before .before .before .before .before .before .before .before .before .before .before .before .before .pre .1 .0) (c .before .before .before .before .before .before .before .before .before .before .before .before .before .before .before .pre .1 .1 .0 .0) (c .before .before .before .before .before .before .before .before .before .before .before .before .before .before .before .pre .1 .1 .0 .1) (set-fits (c .before .before .before .before .before .before .before .before .before .before .before .before .before .before .before .args .bar) (c .before .before .before .before .before .before .before .before .before .before .before .before .before .before .before .pre .1 .1 .1)) (set-bars (c .before .before .before .before .before .before .before .before .before .before .before .before .before .before .before .args .bar) (c .before .before .before .before .before .before .before .before .before .before .before .before .before .before .before .pre .1 .1 .1)) (not-false (c .before .before .before .before .before .before .before .before .has-route .result) (c .before .before .before .before .before .if1 .left)) (c .before .before .before .if2 .left)
+make-child-requires c κs = child-due (c .before .before .before .before .before .before .before .before .before .before .before .before .before .before .before .args .task) (c .before .before .before .before .before .before .before .before .before .before .before .before .before .before .before .args .hall .now) (c .before .before .before .before .before .before .before .before .before .before .before .before .before .before .before .args .columns .now) (c .before .before .before .before .before .before .before .before .before .before .before .before .before .before .before .args .plans .now) (c .before .before .before .before .before .before .before .before .before .before .before .before .before .before .before .args .layers .now) (c .before .before .before .before .before .before .before .before .has-route .last .1 .1 .1 .1 .1 .1 .0) (c .before .before .before .before .before .before .before .before .before .before .before .before .before .before .before .args .node) (c .before .before .before .before .before .before .before .before .before .before .before .before .before .before .before .args .carrier) (c .before .before .before .before .before .before .before .before .before .before .before .before .before .before .before .args .bar) (c .before .before .before .before .before .before .before .before .has-route .result) (c .before .before .before .before .before .before .before .before .has-route .ensures) (c .before .before .before .before .before .before .before .before .before .before .before .before .before .before .before .args .made) (c .before .before .before .before .before .before .before .before .before .before .before .before .before .before .before .pre .0) (c .before .before .before .before .before .before .before .before .before .before .before .before .before .before .before .pre .1 .0) (c .before .before .before .before .before .before .before .before .before .before .before .before .before .before .before .pre .1 .1 .0 .0) (c .before .before .before .before .before .before .before .before .before .before .before .before .before .before .before .pre .1 .1 .0 .1) (c .before .before .before .before .before .before .before .before .before .before .before .before .before .before .before .pre .1 .1 .1 .0) (c .before .before .before .before .before .before .before .before .before .before .before .before .before .before .before .pre .1 .1 .1 .1) (not-false (c .before .before .before .before .before .before .before .before .has-route .result) (c .before .before .before .before .before .if1 .left)) (c .before .before .before .if2 .left)
 
 same-length-5 : tie.Need-same-length-5
 same-length-5 c = search needs
