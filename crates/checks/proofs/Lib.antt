@@ -3,3 +3,4 @@ pub mod WalkCode
 pub mod Settled
 pub mod PlanCheck
 pub mod Broken
+pub mod Wrong

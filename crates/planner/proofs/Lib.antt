@@ -9,3 +9,4 @@ pub mod Stars
 pub mod Tails
 pub mod Turns
 pub mod Written
+pub mod Wrong
