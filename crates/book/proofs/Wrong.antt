@@ -1,15 +1,16 @@
 -- Wrong answers that the reader's contracts rule out. `reader_answer` and `judge_asked` promise one thing of a book and a kind,
--- `reader_body` and `body` another, so each law speaks of two functions. The book is the one that document 01 prints. Assumes nothing.
+-- `reader_body` and `body` another, so each law speaks of two functions. The book is the one that document 01 prints, unless another is
+-- named. Assumes nothing.
 use Prim.Native.Nat.{ℕ, _+_, _-_}
 use native.Mathlib.Omega.{arith}
 use mathlib.Core.Path.{_≡_, sym, ap, _∙_}
-use mathlib.Core.List.{List, [], _∷_}
+use mathlib.Core.List.{List, [], _∷_, _++_}
 use base.Fml.{GName}
 use denote.Ref.{RefT}
 use lib.ListN.{getD, length, take, drop}
 use Rattle.lists.specs.Lists.{refuseIf}
-use Rattle.book.specs.declared.BookVerdict.the-variants.{WrongKinds, WrongBodies, NoKind}
-use Rattle.book.specs.Book.{bookNumber, noContents, bookVerdict, noKind, ifGood, askedVerdict, bodyOf, bodyPlace}
+use Rattle.book.specs.declared.BookVerdict.the-variants.{Good, WrongKinds, WrongBodies, WrongLengths, NoKind}
+use Rattle.book.specs.Book.{bookNumber, lowHigh, entryKind, entryOffset, entryLength, entryBody, noContents, wrongKinds, wrongBodies, wrongLengths, bookVerdict, noKind, ifGood, askedVerdict, bodyOf, bodyPlace}
 use Rattle.book.specs.Handed.{Handed}
 use Rattle.book.proofs.Example.{printedBook, printed-good, printed-carriers, printed-limits, printed-places}
 use Rattle.book.proofs.Verdicts.{asked-kind, asked-three, refused-empty}
@@ -24,6 +25,22 @@ counted-from-ten e = let z : _≡_ {A = ℕ} 11 12 = e in omega arith
 pub bodies-as-lengths : 14 ≡ bookNumber WrongBodies → ⊥
 bodies-as-lengths e = let z : _≡_ {A = ℕ} 14 13 = e in omega arith
 
+-- ---- judge_book
+
+-- a byte after the last body accepted
+pub byte-after-the-bodies : Good ≡ bookVerdict (printedBook ++ (0 ∷ [])) → ⊥
+unfolding bookVerdict refuseIf noContents wrongKinds wrongBodies entryKind entryOffset entryLength lowHigh
+byte-after-the-bodies e = let z : _≡_ {A = ℕ} 0 13 = ap bookNumber e in omega arith
+
+-- 14 before 13, of a book with a hall body of one byte and a byte after the bodies
+pub lengths-before-bodies : WrongLengths ≡ bookVerdict (3 ∷ 1 ∷ 16 ∷ 0 ∷ 1 ∷ 0 ∷ 2 ∷ 17 ∷ 0 ∷ 0 ∷ 0 ∷ 3 ∷ 17 ∷ 0 ∷ 0 ∷ 0 ∷ 1 ∷ 0 ∷ []) → ⊥
+unfolding bookVerdict refuseIf noContents wrongKinds wrongBodies entryKind entryOffset entryLength lowHigh
+lengths-before-bodies e = let z : _≡_ {A = ℕ} 14 13 = ap bookNumber e in omega arith
+
+-- the high byte first: the offset 16 0 would be 4,096
+pub high-byte-first : WrongBodies ≡ bookVerdict printedBook → ⊥
+high-byte-first e = let z : _≡_ {A = ℕ} 13 0 = ap bookNumber (e ∙ printed-good) in omega arith
+
 -- ---- reader_answer and judge_asked
 
 -- 15 before 11, of an empty book
@@ -34,6 +51,11 @@ kind-before-contents e = let z : _≡_ {A = ℕ} 15 11 = ap bookNumber e in omeg
 -- kinds counted from 0: the last one refused
 pub last-kind-refused : NoKind ≡ askedVerdict printedBook 3 → ⊥
 last-kind-refused e = let z : _≡_ {A = ℕ} 15 0 = ap bookNumber (e ∙ asked-three printedBook 3 printed-good (omega arith) (omega arith)) in omega arith
+
+-- the answer of the book alone: never 15
+pub kind-not-asked : bookVerdict printedBook ≡ askedVerdict printedBook 4 → ⊥
+unfolding refuseIf noKind
+kind-not-asked e = let z : _≡_ {A = ℕ} 0 15 = ap bookNumber (sym printed-good ∙ e ∙ sym (asked-kind printedBook 4 printed-good)) in omega arith
 
 -- ---- reader_body and body
 
@@ -49,7 +71,15 @@ module _ (block first : ℕ) (γ δ : GName) where
   pub limits-for-carriers : Handed lent 2 (part 31 33) → ⊥
   limits-for-carriers h = let z : _≡_ {A = ℕ} 0 3 = ap (λ (xs : List ℕ). getD xs 0 9) (h .bytes ∙ printed-carriers) in omega arith
 
-  -- the last body for any kind above 3
+  -- the hall's body whatever the kind
+  pub hall-for-limits : Handed lent 3 (part 16 27) → ⊥
+  hall-for-limits h = let z : _≡_ {A = ℕ} 11 2 = ap length (h .bytes ∙ printed-limits) in omega arith
+
+  -- the carriers without their last byte
+  pub carriers-one-short : Handed lent 2 (part 27 30) → ⊥
+  carriers-one-short h = let z : _≡_ {A = ℕ} 3 4 = ap length (h .bytes ∙ printed-carriers) in omega arith
+
+  -- with a refusal, the last body
   pub last-body-for-no-kind : Handed lent 4 (part 31 33) → ⊥
   unfolding refuseIf noKind
   last-body-for-no-kind h =

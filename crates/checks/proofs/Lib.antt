@@ -5,3 +5,4 @@ pub mod WalkCode
 pub mod Settled
 pub mod PlanCheck
 pub mod Broken
+pub mod Wrong

@@ -1,22 +1,25 @@
--- Wrong answers of `stretch_of`, `sum_at` and `make_root`, each refuted at a named small task: what the contract says there is computed,
+-- Wrong answers of `stretch_of`, `sum_at`, `make_root` and `add_child`, each refuted at a named small task: what the contract says there is computed,
 -- and it is not what the wrong version gives. Assumes nothing.
 use Prim.Native.Nat.{ℕ, _+_, _*_}
 use native.Mathlib.Omega.{arith}
 use mathlib.Core.Path.{_≡_, refl, sym, ap, _∙_}
 use mathlib.Core.Bool.{Bool, true}
 use mathlib.Core.List.{List, [], _∷_}
-use lib.ListN.{length, getD}
+use lib.ListN.{length, getD, take, drop}
 use Rattle.lists.specs.Lists.{range, sumTo, only, keep, anyOf, each}
 use Rattle.hall.specs.Hall.{isOpen}
 use Rattle.hall.specs.Moves.{onGrid, cellAt, landing, reachFrom, reach}
 use Rattle.routes.specs.Route.{routeIn, stepCost, cost}
 use Rattle.routes.specs.Bars.{barsFor, barsCell, barsWay, mayStand, mayTurn}
 use Rattle.routes.specs.Best.{cheaper, better, bestOf, inFront, bestWay, bestRoute}
-use Rattle.records.specs.Columns.{sumAt}
+use Rattle.routes.specs.declared.Bar.the-variants.{Stay}
+use Rattle.records.specs.Columns.{sumAt, barFrom, barAt, isBar, ownBars, chains, chainOf}
+use Rattle.marks.specs.Marks.{boundBy}
 use Rattle.tree.specs.Tree.{routeUnder, withRoute, freeRoutes, rootOf, root}
 use Rattle.children.specs.declared.Task.{Task}
-use Rattle.children.specs.Steps.{jobOn, RootFact}
-use Rattle.children.specs.Written.{putRoute, sumIn, rootPlans, oneMore, freeFrom, freeCount, rootSum, RootTables}
+use Rattle.children.specs.declared.Grown.the-variants.{Made, Full}
+use Rattle.children.specs.Steps.{jobOn, RootFact, ChildFact}
+use Rattle.children.specs.Written.{routeOn, putRoute, sumIn, copiedPlans, ChildWritten, ChildTables, rootPlans, oneMore, freeFrom, freeCount, rootSum, RootTables}
 
 -- a row of two open cells
 abbrev pub row : List ℕ
@@ -92,3 +95,54 @@ unfolding rootSum sumIn sumTo routeIn cost stepCost
 make-root-sum-left-at-zero columns columns' plans' layers' tables wrong =
     let two : sumIn (exchange 1) plans' 0 ≡ 2 = ap (λ (l : List ℕ). sumIn (exchange 1) l 0) (tables .routes ∙ root-routes) in
     omega (arith, wrong, tables .written .sum-is, two)
+
+-- ---- a child: four open cells, 2 by 2, 0→1 and 1→0 with H 2 and N 4
+
+abbrev pub square : List ℕ
+square = 46 ∷ 46 ∷ 46 ∷ 46 ∷ []
+
+abbrev pub turning : Task
+turning =
+    record {
+      width = 2;
+      height = 2;
+      delay = 0;
+      horizon = 2;
+      capacity = 4;
+      team = record { starts = 0 ∷ 1 ∷ 0 ∷ 0 ∷ 0 ∷ 0 ∷ 0 ∷ 0 ∷ []; goals = 1 ∷ 0 ∷ 0 ∷ 0 ∷ 0 ∷ 0 ∷ 0 ∷ 0 ∷ []; count = 2 };
+    }
+
+-- the root, and its two children, each of which bars one carrier from its crossing at step 0
+abbrev pub grownColumns : List ℕ
+grownColumns =
+    0 ∷ 0 ∷ 0 ∷ 0 ∷ 0 ∷ 2 ∷ 2 ∷ 0 ∷ 0 ∷ 0 ∷ 1 ∷ 0 ∷ 0 ∷ 0 ∷ 1 ∷ 0
+    ∷ 0 ∷ 1 ∷ 0 ∷ 0 ∷ 0 ∷ 0 ∷ 0 ∷ 0 ∷ 2 ∷ 3 ∷ 3 ∷ 0 ∷ 0 ∷ 1 ∷ 0 ∷ 0 ∷ []
+
+abbrev pub grownPlans : List ℕ
+grownPlans =
+    0 ∷ 1 ∷ 1 ∷ 1 ∷ 0 ∷ 0
+    ∷ 0 ∷ 0 ∷ 1 ∷ 1 ∷ 0 ∷ 0
+    ∷ 0 ∷ 1 ∷ 1 ∷ 1 ∷ 1 ∷ 0
+    ∷ 0 ∷ 0 ∷ 0 ∷ 0 ∷ 0 ∷ 0 ∷ []
+
+-- the plans with the child of node 2 whose carrier 0 may not be on cell 1 at step 1
+abbrev pub childOfTwo : List ℕ
+childOfTwo = putRoute (jobOn turning square) (copiedPlans (jobOn turning square) grownPlans 2 3) 3 0 (routeOn turning square grownColumns 2 0 (Stay 1 1 1))
+
+child-routes : take 6 (drop 18 childOfTwo) ≡ 0 ∷ 0 ∷ 1 ∷ 1 ∷ 1 ∷ 0 ∷ []
+unfolding range only keep anyOf each isOpen onGrid cellAt landing reachFrom reach stepCost cost barsFor barsCell barsWay mayStand mayTurn cheaper better bestOf inFront bestWay bestRoute boundBy chainOf chains ownBars isBar barAt barFrom putRoute
+child-routes = refl
+
+-- 9 one record early: a fourth record is free
+pub add-child-full-early : (columns' plans' : List ℕ) → ChildFact (jobOn turning square) 4 2 (record { carrier = 0; bar = Stay 1 1 1 }) 3 grownColumns grownPlans columns' plans' Full → ⊥
+unfolding ChildFact
+add-child-full-early columns' plans' f = let z : _≡_ {A = ℕ} 3 4 = f .0 in omega arith
+
+-- the routes of the root for those of the parent: carrier 1 goes to its goal at once
+pub add-child-from-the-root : (columns' plans' layers' : List ℕ) → ChildTables turning square 2 (record { carrier = 0; bar = Stay 1 1 1 }) 3 grownColumns grownPlans columns' plans' layers' Made
+    → take 6 (drop 18 plans') ≡ 0 ∷ 0 ∷ 1 ∷ 1 ∷ 0 ∷ 0 ∷ [] → ⊥
+unfolding ChildWritten
+add-child-from-the-root columns' plans' layers' tables wrong =
+    let e : plans' ≡ childOfTwo = tables .written .0 in
+    let z : _≡_ {A = ℕ} 0 1 = ap (λ (l : List ℕ). getD l 4 9) (sym wrong ∙ ap (λ (l : List ℕ). take 6 (drop 18 l)) e ∙ child-routes) in
+    omega arith

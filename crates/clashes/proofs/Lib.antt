@@ -9,3 +9,4 @@ pub mod Compared
 pub mod Cursor
 pub mod Swaps
 pub mod Same
+pub mod Wrong

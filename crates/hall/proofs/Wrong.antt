@@ -46,6 +46,11 @@ closed-refused e = true≢false e
 
 -- ---- is_open
 
+-- a closed cell
+pub closed-open : true ≡ isOpen corner 1 → ⊥
+unfolding isOpen
+closed-open e = true≢false e
+
 -- the cell after the last, since there is a byte
 pub past-the-grid-open : true ≡ isOpen overlong 4 → ⊥
 unfolding isOpen

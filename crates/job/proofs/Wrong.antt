@@ -1,17 +1,44 @@
--- Wrong answers that the contracts of the job's small functions rule out. Each law puts one in the result's place at a named input.
+-- Wrong answers that the contracts of the job's functions rule out. Each law puts one in the result's place at a named input.
 -- Assumes nothing.
 use Prim.Native.Nat.{ℕ}
 use native.Mathlib.Omega.{arith}
 use mathlib.Core.Path.{_≡_, sym, ap}
 use mathlib.Core.Bool.{true, false, true≢false}
-use Rattle.job.specs.Job.{wrongCapacity}
+use mathlib.Core.List.{[], _∷_}
+use Rattle.lists.specs.Lists.{range, anyOf, each, firstOf, refuseIf}
+use Rattle.hall.specs.Hall.{wrongSide, wrongGrid, wrongByte, wrongBytes, isOpen}
+use Rattle.job.specs.Job.{Job, wrongLimits, wrongCapacity, wrongCount, wrongEnds, firstWrong, share, pairs, firstShared}
+use Rattle.job.specs.Team.{jobOf}
 use Rattle.job.specs.Told.{named, refusal}
-use Rattle.job.specs.Verdict.{verdictTold}
+use Rattle.job.specs.Verdict.{verdictTold, endsVerdict, sharedVerdict, judgeWith}
 use Rattle.job.specs.declared.Told.{Told}
 use Rattle.job.specs.declared.Fault.{Fault}
-use Rattle.job.specs.declared.Verdict.the-variants.{WrongEnds}
+use Rattle.job.specs.declared.Verdict.{Verdict}
+use Rattle.job.specs.declared.Verdict.the-variants.{Accepted, WrongEnds, SharedEnds}
+
+-- ---- judge_job, at a row of three open cells with two carriers, 0→2 and 1→ a given cell
+
+abbrev two : ℕ → Job
+two goal =
+    jobOf 3 1 (46 ∷ 46 ∷ 46 ∷ [])
+    (record { starts = 0 ∷ 1 ∷ 0 ∷ 0 ∷ 0 ∷ 0 ∷ 0 ∷ 0 ∷ []; goals = 2 ∷ goal ∷ 0 ∷ 0 ∷ 0 ∷ 0 ∷ 0 ∷ 0 ∷ []; count = 2 })
+    0 3
+
+-- a shared goal accepted: only the starts looked at
+pub shared-goal-accepted : Accepted ≡ judgeWith false (two 2) → ⊥
+unfolding judgeWith refuseIf wrongGrid wrongSide wrongBytes wrongByte isOpen wrongLimits wrongCount wrongEnds firstWrong share pairs firstShared endsVerdict sharedVerdict range anyOf each firstOf
+shared-goal-accepted e = let z : _≡_ {A = ℕ} 0 6 = ap (λ (v : Verdict). verdictTold v .number) e in omega arith
+
+-- a carrier taken to share its ends with itself
+pub shares-with-itself : SharedEnds 0 0 ≡ judgeWith false (two 0) → ⊥
+unfolding judgeWith refuseIf wrongGrid wrongSide wrongBytes wrongByte isOpen wrongLimits wrongCount wrongEnds firstWrong share pairs firstShared endsVerdict sharedVerdict range anyOf each firstOf
+shares-with-itself e = let z : _≡_ {A = ℕ} 6 0 = ap (λ (v : Verdict). verdictTold v .number) e in omega arith
 
 -- ---- verdict_told
+
+-- of two carriers the first told twice
+pub first-of-a-pair-twice : named 6 1 1 ≡ verdictTold (SharedEnds 1 2) → ⊥
+first-of-a-pair-twice e = let z : _≡_ {A = ℕ} 1 2 = ap (λ (t : Told). t .other) e in omega arith
 
 -- a single carrier told in the place of a second
 pub carrier-told-as-other : named 5 0 2 ≡ verdictTold (WrongEnds 2) → ⊥

@@ -1,24 +1,42 @@
--- Wrong answers of `answer_lines`, `refusal_lines` and `book_lines`, each refuted at one answer, number or book: the contract with it is
--- false, by computation. Those of `told_lines` are the edits in must-fail/. Assumes nothing.
+-- Wrong answers of `told_lines`, `answer_lines`, `refusal_lines` and `book_lines`, each refuted at one answer, number or book: the
+-- contract with it is false, by computation. Assumes nothing.
 use Prim.Native.Nat.{ℕ}
 use native.Mathlib.Omega.{arith}
-use mathlib.Core.List.{List, []}
+use mathlib.Core.List.{List, [], _∷_}
 use mathlib.Core.Path.{_≡_, ap, sym, _∙_}
 use lib.ListN.{getD, replicate}
-use Rattle.lists.specs.Lists.{refuseIf}
+use Rattle.lists.specs.Lists.{refuseIf, each}
+use Rattle.routes.specs.Route.{routeIn, stepCost, cost}
 use Rattle.book.specs.Book.{noContents, bookVerdict, ifGood}
 use Rattle.book.proofs.Example.{printedBook}
 use Rattle.tables.specs.Tables.{Tables}
 use Rattle.planner.specs.Answer.{answerTold}
 use Rattle.planner.specs.declared.Answer.the-variants.{Short, Full}
 use Rattle.text.specs.Text.{Page, page, putByte, put, digitsWithin, digits}
-use Rattle.lines.specs.Lines.{answerWord, numberLine, restText, toldText}
+use Rattle.lines.specs.Lines.{answerWord, numberLine, cellsText, costLine, carrierLine, carrierLines, planText, restText, toldText, holdsNoPlan, carriersText}
 use Rattle.lines.specs.Printed.{bookText, bookTables, Printed}
 use Rattle.lines.proofs.Example.{programTables, printed-book-text}
 
 -- a page of so many zeros
 abbrev blank : ℕ → Page
 blank n = page (replicate n 0) 0
+
+-- ---- told_lines, of a plan of sum 2 with 1 record: one carrier, 0 1 2, with H 2
+
+abbrev planLines : List ℕ
+planLines =
+    toldText (record { number = 0; sum = 2; records = 1; carrier = 0; other = 0 })
+    (carriersText (record { starts = 0 ∷ []; goals = 2 ∷ []; count = 1 }) 2 (0 ∷ 1 ∷ 2 ∷ []))
+
+-- the last line ends with the cells 0 1 2, and the whole text has 54 bytes
+pub goal-cell-left-out : (given : List ℕ) → page given 52 ≡ put (blank 60) planLines → ⊥
+unfolding put putByte digits digitsWithin numberLine cellsText costLine carrierLine carrierLines planText restText toldText holdsNoPlan carriersText each routeIn cost stepCost
+goal-cell-left-out given e = let z : _≡_ {A = ℕ} 52 54 = ap (λ (p : Page). p .at) e in omega arith
+
+-- '2' is 50; the number of records stands at byte 23
+pub sum-printed-as-records : (given : List ℕ) (r : ℕ) → getD given 23 0 ≡ 50 → page given r ≡ put (blank 60) planLines → ⊥
+unfolding put putByte digits digitsWithin numberLine cellsText costLine carrierLine carrierLines planText restText toldText holdsNoPlan carriersText each routeIn cost stepCost
+sum-printed-as-records given r wrong e = let z : _≡_ {A = ℕ} 50 49 = sym wrong ∙ ap (λ (p : Page). getD (p .bytes) 23 0) e in omega arith
 
 -- ---- answer_lines: for any lines of carriers, so for those of any team and output
 

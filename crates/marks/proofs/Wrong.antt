@@ -1,8 +1,64 @@
--- A wrong answer that the contract of `digit_of` rules out. Assumes nothing.
+-- Wrong answers that the contracts of `digit_of` and `mark_all` rule out. Those of `mark_all` leave a byte 0 that a bar marks with 255, in
+-- two cells in a row with H 1; antt computes which bars bind, and what their mark is. Assumes nothing.
 use Prim.Native.Nat.{ℕ, _^_}
 use native.Mathlib.Omega.{arith}
-use mathlib.Core.Path.{_≡_}
+use mathlib.Core.Path.{_≡_, refl, sym, ap, _∙_}
+use mathlib.Core.List.{List, [], _∷_}
+use lib.ListN.{getD}
+use Rattle.lists.specs.Lists.{only, anyOf}
+use Rattle.routes.specs.Bars.{barsFor, barsCell}
+use Rattle.routes.specs.declared.Bar.{Bar}
+use Rattle.routes.specs.declared.Bar.the-variants.{Free, Stay}
+use Rattle.records.specs.Columns.{barFrom, barAt, isBar, ownBars, chains, chainOf}
+use Rattle.marks.specs.Marks.{boundBy, markOf}
+use Rattle.marks.specs.Post.{MarkedAll}
+
+-- ---- digit_of
 
 -- twice the move's number for two to its power
 pub twice-for-power : 6 ≡ 2 ^ 3 → ⊥
 twice-for-power e = let z : _≡_ {A = ℕ} 6 8 = e in omega arith
+
+-- the digits of moves 2 and 3 exchanged
+pub digits-exchanged : 8 ≡ 2 ^ 2 → ⊥
+digits-exchanged e = let z : _≡_ {A = ℕ} 8 4 = e in omega arith
+
+-- ---- mark_all
+
+-- columns for three nodes, each the parent of the next: node 0 bars carrier 0 from cell 1 at steps 0 to 1, node 1 bars carrier 1 from cell
+-- 0 at these steps, node 2 has no bar
+abbrev three : List ℕ
+three = 0 ∷ 0 ∷ 1 ∷ 1 ∷ 1 ∷ 0 ∷ 0 ∷ 1 ∷ 0 ∷ 1 ∷ 0 ∷ 0 ∷ 0 ∷ 0 ∷ 0 ∷ 1 ∷ 1 ∷ 0 ∷ 0 ∷ 0 ∷ 0 ∷ 0 ∷ 0 ∷ 0 ∷ []
+
+-- what is left where node 2 is asked for a carrier
+abbrev Left : ℕ → List ℕ → List ℕ → Type 0
+Left carrier before after = MarkedAll 2 1 1 (boundBy 3 three 2 carrier Free) before after
+
+of-carrier-0 : boundBy 3 three 2 0 Free ≡ Free ∷ Stay 1 0 1 ∷ []
+unfolding boundBy barsFor chainOf chains ownBars isBar barAt barFrom only
+of-carrier-0 = refl
+
+of-carrier-1 : boundBy 3 three 2 1 Free ≡ Free ∷ Stay 0 0 1 ∷ []
+unfolding boundBy barsFor chainOf chains ownBars isBar barAt barFrom only
+of-carrier-1 = refl
+
+-- the last step of a bar not marked
+pub last-step-left-out : (before after : List ℕ) → Left 0 before after → getD after 3 0 ≡ 0 → ⊥
+unfolding markOf barsCell anyOf
+last-step-left-out before after m wrong =
+    let z : _≡_ {A = ℕ} 0 255 = sym wrong ∙ m .marked .marks 1 1 (omega arith) (omega arith) ∙ ap (λ (bars : List Bar). markOf 2 1 bars 1 1) of-carrier-0 in
+    omega arith
+
+-- the walk ends before the root: its bar is not marked at any step
+pub root-left-out : (before after : List ℕ) → Left 0 before after → getD after 1 0 ≡ 0 → ⊥
+unfolding markOf barsCell anyOf
+root-left-out before after m wrong =
+    let z : _≡_ {A = ℕ} 0 255 = sym wrong ∙ m .marked .marks 0 1 (omega arith) (omega arith) ∙ ap (λ (bars : List Bar). markOf 2 1 bars 0 1) of-carrier-0 in
+    omega arith
+
+-- the ancestors asked for another carrier: the bar of carrier 1 is not marked
+pub bar-of-the-carrier-left-out : (before after : List ℕ) → Left 1 before after → getD after 0 0 ≡ 0 → ⊥
+unfolding markOf barsCell anyOf
+bar-of-the-carrier-left-out before after m wrong =
+    let z : _≡_ {A = ℕ} 0 255 = sym wrong ∙ m .marked .marks 0 0 (omega arith) (omega arith) ∙ ap (λ (bars : List Bar). markOf 2 1 bars 0 0) of-carrier-1 in
+    omega arith

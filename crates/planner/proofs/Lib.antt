@@ -8,3 +8,4 @@ pub mod Stars
 pub mod Tails
 pub mod Turns
 pub mod Written
+pub mod Wrong

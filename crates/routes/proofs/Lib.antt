@@ -6,3 +6,4 @@ pub mod Lawful
 pub mod Order
 pub mod Right
 pub mod Way
+pub mod Wrong

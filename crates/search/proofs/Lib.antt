@@ -3,3 +3,4 @@ pub mod Goes
 pub mod Least
 pub mod Need
 pub mod Taken
+pub mod Wrong

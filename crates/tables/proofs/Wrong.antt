@@ -1,8 +1,8 @@
 -- Wrong answers that the contracts over the lent tables rule out. Each law puts one in the place of the result or of the table at exit,
 -- at small tables that meet the function's `requires`. Assumes nothing.
-use Prim.Native.Nat.{ℕ, _+_, _*_}
+use Prim.Native.Nat.{ℕ, _+_, _*_, _<_}
 use native.Mathlib.Omega.{arith}
-use mathlib.Core.Path.{_≡_, sym, ap}
+use mathlib.Core.Path.{_≡_, refl, sym, ap}
 use mathlib.Core.Bool.{true, true≢false}
 use mathlib.Core.List.{List, [], _∷_}
 use lib.ListN.{getD, set}
@@ -32,6 +32,11 @@ stay = Stay 4 1 2
 pub closed-taken : LeastFact 2 two 2 (At 0) → ⊥
 unfolding LeastFact isOpenAt
 closed-taken f = true≢false (sym (f .opened))
+
+-- two open nodes of sum 5: the one of the greater number
+pub later-of-equal-sums : LeastFact 2 (0 ∷ 0 ∷ 0 ∷ 0 ∷ 0 ∷ 0 ∷ 0 ∷ 0 ∷ 0 ∷ 0 ∷ 0 ∷ 0 ∷ 5 ∷ 5 ∷ 1 ∷ 1 ∷ []) 2 (At 1) → ⊥
+unfolding LeastFact isOpenAt
+later-of-equal-sums f = let z : 5 < 5 = f .first 0 (omega arith) refl in omega arith
 
 -- ---- close
 
@@ -81,3 +86,8 @@ first-touch e = let z : _≡_ {A = ℕ} 1 3 = e in omega arith
 pub last-carrier-left-out : 3 ≡ sumTo 2 (λ i. cost (getD (5 ∷ 7 ∷ 0 ∷ 0 ∷ 0 ∷ 0 ∷ 0 ∷ 0 ∷ []) i 0) (routeIn 4 (3 ∷ 3 ∷ 4 ∷ 5 ∷ 5 ∷ 1 ∷ 4 ∷ 7 ∷ 7 ∷ 7 ∷ []) i)) → ⊥
 unfolding sumTo routeIn cost stepCost
 last-carrier-left-out e = let z : _≡_ {A = ℕ} 3 5 = e in omega arith
+
+-- the goal of carrier 0 for every carrier: 1 4 7 7 7 never comes to 5
+pub cost-of-the-wrong-carrier : 8 ≡ sumTo 2 (λ i. cost (getD (5 ∷ 7 ∷ 0 ∷ 0 ∷ 0 ∷ 0 ∷ 0 ∷ 0 ∷ []) i 0) (routeIn 4 (3 ∷ 3 ∷ 4 ∷ 5 ∷ 5 ∷ 1 ∷ 4 ∷ 7 ∷ 7 ∷ 7 ∷ []) i)) → ⊥
+unfolding sumTo routeIn cost stepCost
+cost-of-the-wrong-carrier e = let z : _≡_ {A = ℕ} 8 5 = e in omega arith

@@ -34,3 +34,12 @@ cut-word-left-out-whole e = let z : _≡_ {A = ℕ} 0 97 = ap (λ (p : Page). ge
 pub ten-printed-as-01 : (r : ℕ) → page (48 ∷ 49 ∷ []) r ≡ put (page (0 ∷ 0 ∷ []) 0) (digits 10) → ⊥
 unfolding put putByte digits digitsWithin
 ten-printed-as-01 r e = let z : _≡_ {A = ℕ} 48 49 = ap (λ (p : Page). getD (p .bytes) 0 0) e in omega arith
+
+-- the last digit for those before it
+pub last-digit-twice : (r : ℕ) → page (53 ∷ 53 ∷ []) r ≡ put (page (0 ∷ 0 ∷ []) 0) (digits 45) → ⊥
+unfolding put putByte digits digitsWithin
+last-digit-twice r e = let z : _≡_ {A = ℕ} 53 52 = ap (λ (p : Page). getD (p .bytes) 0 0) e in omega arith
+
+pub zero-printed-as-nothing : page (0 ∷ []) 0 ≡ put (page (0 ∷ []) 0) (digits 0) → ⊥
+unfolding put putByte digits digitsWithin
+zero-printed-as-nothing e = let z : _≡_ {A = ℕ} 0 48 = ap (λ (p : Page). getD (p .bytes) 0 0) e in omega arith

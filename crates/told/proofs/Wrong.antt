@@ -1,16 +1,16 @@
 -- Wrong answers of `answer_told`, `route_told` and `meeting_told`, each refuted at one answer or verdict: the contract with it is false,
--- by computation. What is here stands beside the edits in must-fail/. Assumes nothing.
+-- by computation. Assumes nothing.
 use Prim.Native.Nat.{ℕ}
 use native.Mathlib.Omega.{arith}
 use mathlib.Core.Path.{_≡_, ap, sym, _∙_}
 use Rattle.job.specs.declared.Fault.{Fault}
 use Rattle.job.specs.declared.Told.{Told}
 use Rattle.planner.specs.Answer.{answerTold}
-use Rattle.planner.specs.declared.Answer.the-variants.{Full}
+use Rattle.planner.specs.declared.Answer.the-variants.{Plan, Full}
 use Rattle.routes.specs.Check.{routeTold}
 use Rattle.routes.specs.declared.RouteVerdict.the-variants.{Short, Wrong}
 use Rattle.clashes.specs.Check.{meetingTold}
-use Rattle.clashes.specs.declared.Clash.the-variants.{Meeting}
+use Rattle.clashes.specs.declared.Clash.the-variants.{Meeting, Swap}
 use Rattle.clashes.specs.declared.MeetingVerdict.the-variants.{Compared}
 
 -- ---- answer_told
@@ -18,6 +18,10 @@ use Rattle.clashes.specs.declared.MeetingVerdict.the-variants.{Compared}
 -- 'a record is due and N are in use' is no 'the tree is used up'
 pub full-told-as-8 : (r : Told) → r .number ≡ 8 → r ≡ answerTold (Full 2) → ⊥
 full-told-as-8 r wrong e = let z : _≡_ {A = ℕ} 8 9 = sym wrong ∙ ap (λ (t : Told). t .number) e in omega arith
+
+-- sum 5 with 3 records
+pub sum-told-as-records : (r : Told) → r .sum ≡ 3 → r .records ≡ 5 → r ≡ answerTold (Plan 5 3) → ⊥
+sum-told-as-records r first second e = let z : _≡_ {A = ℕ} 3 5 = sym first ∙ ap (λ (t : Told). t .sum) e in omega arith
 
 -- ---- route_told
 
@@ -33,3 +37,7 @@ short-plan-told-as-lawful r wrong e = let z : _≡_ {A = ℕ} 0 7 = sym wrong �
 -- carrier 0 at step 3 and carrier 1 two steps later
 pub carriers-of-a-meeting-exchanged : (r : Fault) → r .carrier ≡ 1 → r .other ≡ 0 → r ≡ meetingTold (Compared (Meeting 0 1 3 2)) → ⊥
 carriers-of-a-meeting-exchanged r first second e = let z : _≡_ {A = ℕ} 1 0 = sym first ∙ ap (λ (f : Fault). f .carrier) e in omega arith
+
+-- carriers 0 and 1 exchange their cells at step 3
+pub swap-told-as-meeting : (r : Fault) → r .swap ≡ 0 → r ≡ meetingTold (Compared (Swap 0 1 3)) → ⊥
+swap-told-as-meeting r wrong e = let z : _≡_ {A = ℕ} 0 1 = sym wrong ∙ ap (λ (f : Fault). f .swap) e in omega arith

@@ -5,3 +5,4 @@ pub mod StayLaws
 pub mod StepLaws
 pub mod WayLaws
 pub mod WriteLaws
+pub mod Wrong

@@ -1,0 +1,61 @@
+-- Wrong answers of `plan` besides document 01's broken planners, each refuted at a small job: the contract says that answer and tables
+-- equal `planned`. Assumes nothing.
+use Prim.Native.Nat.{ℕ}
+use native.Mathlib.Omega.{arith}
+use mathlib.Core.Path.{_≡_, sym, ap, _∙_}
+use mathlib.Core.List.{List, [], _∷_}
+use lib.ListN.{getD}
+use Rattle.lists.specs.Lists.{range, sumTo, only, keep, anyOf, firstOf, each, refuseIf}
+use Rattle.lent.specs.Lent.{zeroed}
+use Rattle.hall.specs.Hall.{wrongSide, wrongGrid, wrongByte, wrongBytes, isOpen}
+use Rattle.hall.specs.Moves.{onGrid, cellAt, landing, reachFrom, reach}
+use Rattle.job.specs.Job.{Job, wrongLimits, wrongCapacity, wrongCount, wrongEnds, firstWrong, share, pairs, firstShared}
+use Rattle.job.specs.Verdict.{endsVerdict, sharedVerdict, judgeWith, ifAccepted}
+use Rattle.routes.specs.Route.{stepCost, cost}
+use Rattle.routes.specs.Bars.{barsFor, mayStand, mayTurn}
+use Rattle.routes.specs.Best.{cheaper, better, bestOf, inFront, bestWay, bestRoute}
+use Rattle.clashes.specs.Chosen.{written, meets, swaps, happens, overPairs, atStep, candidates, orClear, chosen}
+use Rattle.search.specs.Search.{prefer, takeLeast, run, search}
+use Rattle.tree.specs.Plan.{total}
+use Rattle.tables.specs.Tables.{Tables, shortTable, workedOn, planWritten, withPlan}
+use Rattle.tree.specs.Tree.{routeUnder, withRoute, freeRoutes, rootOf, root, nodeSum, clashOf, isClear, nodeClear, tree}
+use Rattle.planner.specs.Answer.{Result, searched, enough, planned}
+use Rattle.planner.specs.Stars.{Star, starJob, starTables, Seen, asked, given, stars, lastJob}
+use Rattle.planner.proofs.Stars.{stars-hold}
+
+-- ---- the first ★ job: its root's two children have sum 5 each, and their plans differ
+
+abbrev first : Star
+first = getD stars 0 lastJob
+
+first-given : given first ≡ asked first
+unfolding stars
+first-given = ap (λ (l : List Seen). getD l 0 (asked lastJob)) stars-hold
+
+-- child two made before child one: the plan in which carrier 1 waits, 3 4 5 5 5 and 1 1 4 7 7
+pub child-two-first : (r : Result) → r ≡ planned (starJob first) (first .capacity) (starTables first) → getD (r .tables .output) 1 9 ≡ 4 → ⊥
+unfolding stars each
+child-two-first r e wrong =
+    let z : _≡_ {A = ℕ} 4 3 = sym wrong ∙ ap (λ (x : Result). getD (x .tables .output) 1 9) e ∙ ap (λ (x : Seen). getD (x .output) 1 9) first-given in
+    omega arith
+
+-- ---- one cell, one carrier that is there, k 0, H 0, N 1, with layers that hold a 7
+
+abbrev standing : Job
+standing =
+    record {
+      hall = record { width = 1; height = 1; bytes = 46 ∷ [] };
+      count = 1;
+      startOf = λ i. 0;
+      goalOf = λ i. 0;
+      delay = 0;
+      horizon = 0;
+    }
+
+abbrev lent : Tables
+lent = record { columns = 0 ∷ 0 ∷ 0 ∷ 0 ∷ 0 ∷ 0 ∷ 0 ∷ 0 ∷ []; plans = 0 ∷ []; layers = 7 ∷ []; output = 0 ∷ [] }
+
+-- the layer of the last step not cleared
+pub last-layer-not-cleared : (r : Result) → r ≡ planned standing 1 lent → getD (r .tables .layers) 0 0 ≡ 7 → ⊥
+unfolding range sumTo only keep anyOf firstOf each wrongSide wrongGrid wrongByte wrongBytes isOpen onGrid cellAt landing reachFrom reach wrongLimits wrongCapacity wrongCount wrongEnds firstWrong share pairs firstShared refuseIf endsVerdict sharedVerdict judgeWith ifAccepted stepCost cost barsFor mayStand mayTurn cheaper better bestOf inFront bestWay bestRoute written meets swaps happens overPairs atStep candidates orClear chosen prefer takeLeast run search total shortTable zeroed workedOn planWritten withPlan routeUnder withRoute freeRoutes rootOf root nodeSum clashOf isClear nodeClear tree searched enough planned
+last-layer-not-cleared r e wrong = let z : _≡_ {A = ℕ} 7 0 = sym wrong ∙ ap (λ (x : Result). getD (x .tables .layers) 0 0) e in omega arith
