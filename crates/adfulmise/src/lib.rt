@@ -1,5 +1,5 @@
-// The planner, the two plan checks and the book reader for C and Rust: numbers and slices only. `include/adfulmise.h` says the
-// same for C. No function asks anything of its caller.
+// The planner, the two plan checks and the book reader for C and Rust: numbers, and slices of numbers and of carrier records.
+// `include/adfulmise.h` says the same for C. No function asks anything of its caller.
 use book::BookVerdict;
 use carriers::Carrier;
 use clashes::MeetingVerdict;
@@ -35,7 +35,7 @@ fn write_told(values: Told, told: &mut [usize])
     told[1] = values.sum;
     told[2] = values.records;
     told[3] = values.carrier;
-    told[4] = values.other;
+    told[4] = values.carrier;
 }
 
 // What an answer tells, and its number. It stands apart since only a function that is lent records has its proof by hand.
