@@ -7,6 +7,7 @@
  * call, and pieces that are written overlap no other piece. The library is proved for every input that keeps this.
  *
  * Build it with `rt staticlib adfulmise`, which writes target/staticlib/libadfulmise.a.
+ * docs/BOOK.md has jobs, books, numbers and tables on one page, with an example.
  *
  * A job, in all three functions that take one:
  *   hall, hall_len            the hall's bytes row by row from the top: 46 ('.') is an open cell, 35 ('#') a closed one;
