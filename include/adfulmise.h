@@ -128,7 +128,8 @@ size_t adfulmise_check_meetings(
     size_t *told, size_t told_len);
 
 /*
- * Where a book has the body of a kind: 1 the hall (width, height, hall bytes), 2 the carriers, 3 the limits (k, h).
+ * Where a book has the body of a kind: 1 the hall (width, height, hall bytes), 2 the carriers (their records, one after the
+ * other), 3 the limits (k, h).
  *
  *   place  its first two entries become the offset and the length of the body in the book, 0 and 0 with a refusal; with fewer it
  *          is left as it was

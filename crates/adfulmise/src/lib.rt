@@ -1,5 +1,5 @@
-// The planner, the two plan checks and the book reader for C and Rust: numbers and slices only. `include/adfulmise.h` says the
-// same for C. No function asks anything of its caller.
+// The planner, the two plan checks and the book reader for C and Rust: numbers, and slices of numbers and of carrier records.
+// `include/adfulmise.h` says the same for C. No function asks anything of its caller.
 use book::BookVerdict;
 use carriers::Carrier;
 use clashes::MeetingVerdict;

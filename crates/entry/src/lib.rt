@@ -1,5 +1,6 @@
-// The planner and the two plan checks as a caller in Rattle uses them: 'The list of carriers is lent as a list of records'. The
-// records are read by value, and the rest is the covered planner and checks. No function asks anything of its caller.
+// The planner and the two plan checks as the library's exported functions, or another caller in Rattle, use them: 'The list of carriers
+// is lent as a list of records'. The records are read by value, and the rest is the covered planner and checks. No function asks
+// anything of its caller.
 use carriers::Carrier;
 use clashes::MeetingVerdict;
 use planner::Answer;
