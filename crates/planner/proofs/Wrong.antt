@@ -39,12 +39,12 @@ child-two-first r e wrong =
     let z : _≡_ {A = ℕ} 4 3 = sym wrong ∙ ap (λ (x : Result). getD (x .tables .output) 1 9) e ∙ ap (λ (x : Seen). getD (x .output) 1 9) first-given in
     omega arith
 
--- ---- one cell, one carrier that is there, k 0, H 0, N 1, with layers that hold a 7
+-- ---- two cells in a row, one carrier that is on its goal, cell 0, k 0, H 0, N 1
 
 abbrev standing : Job
 standing =
     record {
-      hall = record { width = 1; height = 1; bytes = 46 ∷ [] };
+      hall = record { width = 2; height = 1; bytes = 46 ∷ 46 ∷ [] };
       count = 1;
       startOf = λ i. 0;
       goalOf = λ i. 0;
@@ -53,9 +53,9 @@ standing =
     }
 
 abbrev lent : Tables
-lent = record { columns = 0 ∷ 0 ∷ 0 ∷ 0 ∷ 0 ∷ 0 ∷ 0 ∷ 0 ∷ []; plans = 0 ∷ []; layers = 7 ∷ []; output = 0 ∷ [] }
+lent = record { columns = 0 ∷ 0 ∷ 0 ∷ 0 ∷ 0 ∷ 0 ∷ 0 ∷ 0 ∷ []; plans = 0 ∷ []; layers = 0 ∷ 0 ∷ []; output = 0 ∷ [] }
 
--- the layer of the last step not cleared
-pub last-layer-not-cleared : (r : Result) → r ≡ planned standing 1 lent → getD (r .tables .layers) 0 0 ≡ 7 → ⊥
+-- the layer of the last step not cleared: the mark of 'no way' is left on cell 1
+pub last-layer-not-cleared : (r : Result) → r ≡ planned standing 1 lent → getD (r .tables .layers) 1 0 ≡ 127 → ⊥
 unfolding range sumTo only keep anyOf firstOf each wrongSide wrongGrid wrongByte wrongBytes isOpen onGrid cellAt landing reachFrom reach wrongLimits wrongCapacity wrongCount wrongEnds firstWrong share pairs firstShared refuseIf endsVerdict sharedVerdict judgeWith ifAccepted stepCost cost barsFor mayStand mayTurn cheaper better bestOf inFront bestWay bestRoute written meets swaps happens overPairs atStep candidates orClear chosen prefer takeLeast run search total shortTable zeroed workedOn planWritten withPlan routeUnder withRoute freeRoutes rootOf root nodeSum clashOf isClear nodeClear tree searched enough planned
-last-layer-not-cleared r e wrong = let z : _≡_ {A = ℕ} 7 0 = sym wrong ∙ ap (λ (x : Result). getD (x .tables .layers) 0 0) e in omega arith
+last-layer-not-cleared r e wrong = let z : _≡_ {A = ℕ} 127 0 = sym wrong ∙ ap (λ (x : Result). getD (x .tables .layers) 1 0) e in omega arith

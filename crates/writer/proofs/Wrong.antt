@@ -24,7 +24,7 @@ pub later-of-equal-cells : 0 ∷ 2 ∷ 3 ∷ [] ≡ left → ⊥
 unfolding writtenRoute bestWay inFront bestOf better cheaper cost stepCost mayStand mayTurn isOpen reach reachFrom landing cellAt onGrid range only keep anyOf each
 later-of-equal-cells e = let z : _≡_ {A = ℕ} 2 1 = ap (λ (r : List ℕ). getD r 1 0) e in omega arith
 
--- the levels of the same step read for those of the next: no near cell has the level wanted, and the carrier stays
+-- a carrier that never moves
 pub never-moves : 0 ∷ 0 ∷ 0 ∷ [] ≡ left → ⊥
 unfolding writtenRoute bestWay inFront bestOf better cheaper cost stepCost mayStand mayTurn isOpen reach reachFrom landing cellAt onGrid range only keep anyOf each
 never-moves e = let z : _≡_ {A = ℕ} 0 1 = ap (λ (r : List ℕ). getD r 1 0) e in omega arith
