@@ -35,7 +35,7 @@ fn write_told(values: Told, told: &mut [usize])
     told[1] = values.sum;
     told[2] = values.records;
     told[3] = values.carrier;
-    told[4] = values.carrier;
+    told[4] = values.other;
 }
 
 // What an answer tells, and its number. It stands apart since only a function that is lent records has its proof by hand.
