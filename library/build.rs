@@ -20,6 +20,7 @@ fn main() {
     {
         Ok(status) => assert!(status.success(), "`rt staticlib adfulmise` failed"),
         Err(error) if error.kind() == ErrorKind::NotFound && archive.exists() => {
+            println!("cargo:rerun-if-env-changed=PATH");
             println!("cargo:rerun-if-changed={}", archive.display());
             println!(
                 "cargo:warning=rt is not on the PATH: {} was not checked against the sources",
