@@ -130,4 +130,4 @@ PageWhole = (book : List ℕ) (n : ℕ) (before after : Tables) (lent given : Li
 -- [plan-printed] 'For 0, then `sum`, `records`, and for each carrier its number, cost and cells from step 0 to its cost.' The routes
 -- are a plan of the job in the book, with no smaller sum; no carrier is left out
 unfoldable pub PlanPrinted : Type 0
-PlanPrinted = (book : List ℕ) (n : ℕ) (before : Tables) → bookVerdict book ≡ Good → numberOf (planned (jobIn book) n before .answer) ≡ 0 → (rs : Routes) × (records : ℕ) × LeastPlan (jobIn book) rs (total (jobIn book) rs) × (records ≤ n) × (bookText book n before ≡ numberLine answerWord 0 ++ (numberLine sumWord (total (jobIn book) rs) ++ numberLine recordsWord records ++ each (λ i. carrierLine i (jobIn book .goalOf i) (routeOf rs i)) (range 0 (jobIn book .count))))
+PlanPrinted = (book : List ℕ) (n : ℕ) (before : Tables) → bookVerdict book ≡ Good → numberOf (planned (jobIn book) n before .answer) ≡ 0 → (rs : Routes) × LeastPlan (jobIn book) rs (total (jobIn book) rs) × (bookText book n before ≡ numberLine answerWord 0 ++ (numberLine sumWord (total (jobIn book) rs) ++ numberLine recordsWord (answerTold (planned (jobIn book) n before .answer) .records) ++ each (λ i. carrierLine i (jobIn book .goalOf i) (routeOf rs i)) (range 0 (jobIn book .count))))
