@@ -1,5 +1,6 @@
 -- What 14 means: each body of a good book is read whole. The hall's body is two numbers and the hall's bytes, the carriers'
--- body is two bytes for each carrier, and the limits' body is two bytes. Assumes nothing.
+-- body is two bytes for each carrier, and the limits' body is two bytes. The contents and the three bodies are the whole book.
+-- Assumes nothing.
 use Prim.Native.Nat.{ℕ, _+_, _*_, _%_, _≤_}
 use native.Mathlib.Omega.{arith}
 use mathlib.Core.Path.{_≡_, ap, _∙_}
@@ -27,6 +28,12 @@ module _ (book : List ℕ) (e : bookVerdict book ≡ Good) where
   -- a body is as long as its entry says
   pub asked-length : (n : ℕ) → 1 ≤ n → n ≤ 3 → length (bodyOf book n) ≡ entryLength book n
   asked-length n l h = ap length (good-body book n (asked-three book n e l h)) ∙ body-length book (good-consecutive book e) n l h
+
+  -- 16 bytes of contents, then the bodies 'without gaps .. to the end'
+  pub book-length : length book ≡ 16 + length (bodyOf book 1) + length (bodyOf book 2) + length (bodyOf book 3)
+  book-length =
+      let s = good-consecutive book e in
+      omega (arith, asked-length 1 (omega arith) (omega arith), asked-length 2 (omega arith) (omega arith), asked-length 3 (omega arith) (omega arith))
 
   tests : (hallUnderTwo (entryBody book 1) ≡ false) × (carriersOdd (entryBody book 2) ≡ false) × (limitsNotTwo (entryBody book 3) ≡ false)
   tests = lengths-passed book (good-passed book e .3)

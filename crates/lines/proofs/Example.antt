@@ -1,9 +1,7 @@
--- What document 01 prints for its own book, as a law: 'For the book 3, 1 16 0 11 0, .. it prints'. With N = 128 and the tables of the
--- program; antt computes both sides. Assumes nothing.
+-- What document 01 prints for its own book, as a law: 'For the book 3, 1 16 0 11 0, .. it prints'. antt computes both sides. Assumes nothing.
 use Prim.Native.Nat.{ℕ}
 use mathlib.Core.List.{List, [], _∷_}
 use mathlib.Core.Path.{_≡_, refl}
-use lib.ListN.{replicate}
 use Rattle.lists.specs.Lists.{range, sumTo, only, keep, anyOf, firstOf, each, refuseIf}
 use Rattle.lent.specs.Lent.{zeroed}
 use Rattle.hall.specs.Hall.{wrongSide, wrongGrid, wrongByte, wrongBytes, isOpen}
@@ -17,7 +15,7 @@ use Rattle.clashes.specs.Chosen.{written, meets, swaps, happens, overPairs, atS
 use Rattle.search.specs.Search.{prefer, takeLeast, run, search}
 use Rattle.tree.specs.Plan.{total}
 use Rattle.tree.specs.Tree.{routeUnder, withRoute, freeRoutes, rootOf, root, nodeSum, clashOf, isClear, nodeClear, barOne, barTwo, childWith, child, kidsFor, kids, tree}
-use Rattle.tables.specs.Tables.{Tables, shortTable, workedOn, planWritten, withPlan}
+use Rattle.tables.specs.Tables.{shortTable, workedOn, planWritten, withPlan}
 use Rattle.planner.specs.Answer.{searched, enough, planned}
 use Rattle.book.specs.Book.{lowHigh, entryKind, entryOffset, entryLength, entryBody, noContents, wrongKinds, wrongBodies, wrongLengths, bookVerdict, noKind, ifGood, askedVerdict, bodyOf}
 use Rattle.book.specs.Parts.{widthIn, heightIn, hallIn, delayIn, horizonIn}
@@ -25,10 +23,7 @@ use Rattle.book.proofs.Example.{printedBook}
 use Rattle.text.specs.Text.{digitsWithin, digits}
 use Rattle.lines.specs.Lines.{numberLine, cellsText, costLine, carrierLine, carrierLines, planText, restText, toldText}
 use Rattle.lines.specs.Printed.{resultText, bookText}
-
--- the tables that plan_book lends
-abbrev pub programTables : Tables
-programTables = record { columns = replicate 1024 0; plans = replicate 65536 0; layers = replicate 16384 0; output = replicate 512 0 }
+use Rattle.lines.specs.Program.{programText}
 
 -- 'answer 0', 'sum 5', 'records 3', 'carrier 0 cost 3 cells 3 3 4 5', 'carrier 1 cost 2 cells 1 4 7'
 abbrev pub printedText : List ℕ
@@ -39,6 +34,6 @@ printedText =
     ∷ 99 ∷ 97 ∷ 114 ∷ 114 ∷ 105 ∷ 101 ∷ 114 ∷ 32 ∷ 48 ∷ 32 ∷ 99 ∷ 111 ∷ 115 ∷ 116 ∷ 32 ∷ 51 ∷ 32 ∷ 99 ∷ 101 ∷ 108 ∷ 108 ∷ 115 ∷ 32 ∷ 51 ∷ 32 ∷ 51 ∷ 32 ∷ 52 ∷ 32 ∷ 53 ∷ 10
     ∷ 99 ∷ 97 ∷ 114 ∷ 114 ∷ 105 ∷ 101 ∷ 114 ∷ 32 ∷ 49 ∷ 32 ∷ 99 ∷ 111 ∷ 115 ∷ 116 ∷ 32 ∷ 50 ∷ 32 ∷ 99 ∷ 101 ∷ 108 ∷ 108 ∷ 115 ∷ 32 ∷ 49 ∷ 32 ∷ 52 ∷ 32 ∷ 55 ∷ 10 ∷ []
 
-pub printed-book-text : bookText printedBook 128 programTables ≡ printedText
-unfolding range sumTo only keep anyOf firstOf each wrongSide wrongGrid wrongByte wrongBytes isOpen onGrid cellAt landing reachFrom reach wrongLimits wrongCapacity wrongCount wrongEnds firstWrong share pairs firstShared refuseIf endsVerdict sharedVerdict judgeWith ifAccepted routeIn stepCost cost barsFor barsCell barsWay mayStand mayTurn cheaper better bestOf inFront bestWay bestRoute written meets swaps happens overPairs atStep candidates orClear chosen prefer takeLeast run search total shortTable zeroed workedOn planWritten withPlan routeUnder withRoute freeRoutes rootOf root nodeSum clashOf isClear nodeClear barOne barTwo childWith child kidsFor kids tree searched enough planned lowHigh entryKind entryOffset entryLength entryBody noContents wrongKinds wrongBodies wrongLengths bookVerdict noKind ifGood askedVerdict bodyOf widthIn heightIn hallIn delayIn horizonIn digitsWithin digits numberLine cellsText costLine carrierLine carrierLines planText restText toldText resultText bookText
+pub printed-book-text : programText printedBook ≡ printedText
+unfolding range sumTo only keep anyOf firstOf each wrongSide wrongGrid wrongByte wrongBytes isOpen onGrid cellAt landing reachFrom reach wrongLimits wrongCapacity wrongCount wrongEnds firstWrong share pairs firstShared refuseIf endsVerdict sharedVerdict judgeWith ifAccepted routeIn stepCost cost barsFor barsCell barsWay mayStand mayTurn cheaper better bestOf inFront bestWay bestRoute written meets swaps happens overPairs atStep candidates orClear chosen prefer takeLeast run search total shortTable zeroed workedOn planWritten withPlan routeUnder withRoute freeRoutes rootOf root nodeSum clashOf isClear nodeClear barOne barTwo childWith child kidsFor kids tree searched enough planned lowHigh entryKind entryOffset entryLength entryBody noContents wrongKinds wrongBodies wrongLengths bookVerdict noKind ifGood askedVerdict bodyOf widthIn heightIn hallIn delayIn horizonIn digitsWithin digits numberLine cellsText costLine carrierLine carrierLines planText restText toldText resultText bookText programText
 printed-book-text = refl

@@ -5,7 +5,7 @@ use Prim.Native.Nat.{ℕ, zero, suc, _+_, _*_, _≤_, _<_}
 use native.Mathlib.Omega.{arith}
 use mathlib.Core.Bool.{Bool, true, false, cond, _||_}
 use mathlib.Core.List.{List, [], _∷_, _++_}
-use mathlib.Core.Path.{_≡_, refl, ap, _∙_}
+use mathlib.Core.Path.{_≡_, sym, ap, _∙_}
 use lib.Dec.{T, eqb, ltb, eqb→eq, ltb→lt}
 use lib.ListN.{length, getD, take, drop, length-append, length-take}
 use lib.Seq.{getD-take, take-at}
@@ -137,12 +137,19 @@ text-fits book n ts = go (bookVerdict book)
     go WrongLengths = omega (arith, line-fits answerWord 14 (omega arith))
     go NoKind = omega (arith, line-fits answerWord 15 (omega arith))
 
--- what `book_lines` leaves on a page with room for that begins with the whole text, and the length told is the text's
-pub page-whole : (book : List ℕ) (n : ℕ) (ts after : Tables) (lent given : List ℕ) (r : ℕ) → Printed (bookText book n ts) (bookTables book n ts) lent r after given → 2296 ≤ length lent
-    → (take r given ≡ bookText book n ts) × (r ≡ length (bookText book n ts))
-page-whole book n ts after lent given r printed room =
+-- what `book_lines` leaves on a page with room for that: the whole text, and then what stood there
+pub page-filled : (book : List ℕ) (n : ℕ) (ts after : Tables) (lent given : List ℕ) (r : ℕ) → Printed (bookText book n ts) (bookTables book n ts) lent r after given → 2296 ≤ length lent
+    → (given ≡ bookText book n ts ++ drop r lent) × (r ≡ length (bookText book n ts))
+page-filled book n ts after lent given r printed room =
     let text = bookText book n ts in
     let whole = printed .printed ∙ put-whole lent 0 text (omega (arith, text-fits book n ts)) in
     let ends : r ≡ length text = ap (λ (p : Page). p .at) whole ∙ omega arith in
     let bytes : given ≡ text ++ drop (0 + length text) lent = ap (λ (p : Page). p .bytes) whole in
-    (rw (bytes, ends) (take-at text (drop (0 + length text) lent) (length text) refl), ends)
+    let behind : 0 + length text ≡ r = omega arith in
+    (rw behind at bytes, ends)
+
+pub page-whole : (book : List ℕ) (n : ℕ) (ts after : Tables) (lent given : List ℕ) (r : ℕ) → Printed (bookText book n ts) (bookTables book n ts) lent r after given → 2296 ≤ length lent
+    → (take r given ≡ bookText book n ts) × (r ≡ length (bookText book n ts))
+page-whole book n ts after lent given r printed room =
+    let (bytes, ends) = page-filled book n ts after lent given r printed room in
+    (rw bytes (take-at (bookText book n ts) (drop r lent) r (sym ends)), ends)

@@ -1,4 +1,5 @@
 pub mod Answers
+pub mod Cut
 pub mod Example
 pub mod Fits
 pub mod Held

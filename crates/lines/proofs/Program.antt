@@ -1,12 +1,13 @@
--- The tables that the program lends are long enough for every accepted job with N = 128, so that it never prints 7: 8 columns of N
--- records, N plans of 8 carriers and 64 steps, 64 layers of 256 cells, one plan. Assumes nothing.
-use Prim.Native.Nat.{ℕ, _*_, _≤_}
+-- The program's own tables are long enough for every accepted job with N = 128, so that it never says 7 of the job in a book; a refused
+-- book has a number from 11 on. Its page has room for every text, so that the text stands there whole. Assumes nothing.
+use Prim.Native.Nat.{ℕ, _+_, _*_, _≤_, _<_}
 use native.Mathlib.Nat.{le-refl, mul-le-mul}
 use native.Mathlib.Omega.{arith}
 use mathlib.Core.Bool.{true, false, true≢false}
-use mathlib.Core.List.{List}
-use mathlib.Core.Path.{_≡_, sym, _∙_}
-use lib.ListN.{length}
+use mathlib.Core.List.{List, _++_}
+use mathlib.Core.Path.{_≡_, sym, ap, _∙_}
+use lib.ListN.{length, getD, take, drop, length-take, length-replicate}
+use lib.Seq.{take-at, drop-at}
 use borrow.Author.Tests.{le-ltb}
 use Rattle.hall.proofs.HallCode.{area-small, layers-small}
 use Rattle.job.specs.Job.{Job, planLength, wrongCapacity}
@@ -15,31 +16,76 @@ use Rattle.job.specs.declared.Verdict.the-variants.{Accepted}
 use Rattle.job.proofs.Accepted.{accepted-facts, plan-small}
 use Rattle.tables.specs.Tables.{Tables, plansLength, layersLength, shortTable}
 use Rattle.planner.specs.Answer.{planned, answerTold}
-use Rattle.lines.specs.Printed.{jobIn}
-use Rattle.lines.proofs.Answers.{seven-short}
+use Rattle.book.specs.Book.{bookNumber, bookVerdict, ifGood}
+use Rattle.book.specs.declared.BookVerdict.{BookVerdict}
+use Rattle.book.specs.declared.BookVerdict.the-variants.{Good, NoContents, WrongKinds, WrongBodies, WrongLengths, NoKind}
+use Rattle.text.specs.Text.{digitsWithin, digits}
+use Rattle.text.proofs.TextLaws.{digits-one}
+use Rattle.lines.specs.Lines.{answerWord, numberLine, restText, toldText}
+use Rattle.lines.specs.Printed.{jobIn, resultText, bookText, bookTables, Printed}
+use Rattle.lines.specs.Program.{programTables, programText, ProgramPrinted}
+use Rattle.lines.proofs.Answers.{seven-short, told-small}
+use Rattle.lines.proofs.Fits.{page-filled}
 
--- tables of at least the program's lengths
-pub record Roomy (ts : Tables) : Type 0 where
-  pub columns : 1024 ≤ length (ts .columns)
-  pub plans : 65536 ≤ length (ts .plans)
-  pub layers : 16384 ≤ length (ts .layers)
-  pub output : 512 ≤ length (ts .output)
+-- ---- the tables
 
-long-enough : (job : Job) (ts : Tables) → Roomy ts → judgeWith (wrongCapacity 128) job ≡ Accepted → shortTable job 128 ts ≡ false
+long-enough : (job : Job) → judgeWith (wrongCapacity 128) job ≡ Accepted → shortTable job 128 programTables ≡ false
 unfolding shortTable
-long-enough job ts room accepted =
+long-enough job accepted =
     let facts = accepted-facts (wrongCapacity 128) job accepted in
     let plan : planLength job ≤ 512 = plan-small (facts .countMost) (facts .horizonMost) in
     let plans : plansLength job 128 ≤ 65536 = mul-le-mul (le-refl 128) plan in
     let layers : layersLength job ≤ 16384 = layers-small (facts .horizonMost) (area-small (facts .widthMost) (facts .heightMost)) in
     simp (
-      le-ltb (length (ts .columns)) (8 * 128) (room .columns),
-      le-ltb (length (ts .plans)) (plansLength job 128) (omega (arith, room .plans)),
-      le-ltb (length (ts .layers)) (layersLength job) (omega (arith, room .layers)),
-      le-ltb (length (ts .output)) (planLength job) (omega (arith, room .output)),
+      le-ltb (length (programTables .columns)) (8 * 128) (omega (arith, length-replicate {A = ℕ} 1024 0)),
+      le-ltb (length (programTables .plans)) (plansLength job 128) (omega (arith, length-replicate {A = ℕ} 65536 0)),
+      le-ltb (length (programTables .layers)) (layersLength job) (omega (arith, length-replicate {A = ℕ} 16384 0)),
+      le-ltb (length (programTables .output)) (planLength job) (omega (arith, length-replicate {A = ℕ} 512 0)),
     )
 
-pub never-seven : (book : List ℕ) (ts : Tables) → Roomy ts → answerTold (planned (jobIn book) 128 ts .answer) .number ≡ 7 → ⊥
-never-seven book ts room seven =
-    let (accepted, short) = seven-short (jobIn book) 128 ts seven in
-    true≢false (sym short ∙ long-enough (jobIn book) ts room accepted)
+-- of the job in a book
+pub never-seven : (book : List ℕ) → answerTold (planned (jobIn book) 128 programTables .answer) .number ≡ 7 → ⊥
+never-seven book seven =
+    let (accepted, short) = seven-short (jobIn book) 128 programTables seven in
+    true≢false (sym short ∙ long-enough (jobIn book) accepted)
+
+-- ---- the text
+
+-- a number of one digit, at byte 7 of 'answer '
+first-digit : (n : ℕ) (rest : List ℕ) → n < 10 → getD (numberLine answerWord n ++ rest) 7 0 ≡ 48 + n
+unfolding numberLine
+first-digit n rest small = rw (digits-one n small) (omega arith)
+
+result-digit : (book : List ℕ) → getD (resultText book (planned (jobIn book) 128 programTables)) 7 0 ≡ 48 + answerTold (planned (jobIn book) 128 programTables .answer) .number
+unfolding resultText toldText
+result-digit book = first-digit (answerTold (planned (jobIn book) 128 programTables .answer) .number) _ (omega (arith, told-small (jobIn book) 128 programTables .number))
+
+-- of any bytes
+pub seven-never-printed : (book rest : List ℕ) → programText book ≡ numberLine answerWord 7 ++ rest → ⊥
+unfolding programText bookText ifGood numberLine digits digitsWithin
+seven-never-printed book rest = go (bookVerdict book)
+  where
+    go : (v : BookVerdict) → ifGood v (resultText book (planned (jobIn book) 128 programTables)) (numberLine answerWord (bookNumber v)) ≡ numberLine answerWord 7 ++ rest → ⊥
+    go Good e = never-seven book (omega (arith, result-digit book, ap (λ (text : List ℕ). getD text 7 0) e))
+    go NoContents e = let z : _≡_ {A = ℕ} 49 55 = ap (λ (text : List ℕ). getD text 7 0) e in omega arith
+    go WrongKinds e = let z : _≡_ {A = ℕ} 49 55 = ap (λ (text : List ℕ). getD text 7 0) e in omega arith
+    go WrongBodies e = let z : _≡_ {A = ℕ} 49 55 = ap (λ (text : List ℕ). getD text 7 0) e in omega arith
+    go WrongLengths e = let z : _≡_ {A = ℕ} 49 55 = ap (λ (text : List ℕ). getD text 7 0) e in omega arith
+    go NoKind e = let z : _≡_ {A = ℕ} 49 55 = ap (λ (text : List ℕ). getD text 7 0) e in omega arith
+
+-- ---- the page
+
+pub program-printed : {r : ℕ} {after : Tables} {given : List ℕ} (book lent : List ℕ) → length lent ≡ 4096
+    → Printed (bookText book 128 programTables) (bookTables book 128 programTables) lent r after given → ProgramPrinted book lent r given
+unfolding programText
+program-printed {r} {after} {given} book lent room printed =
+    let (bytes, ends) = page-filled book 128 programTables after lent given r printed (omega arith) in
+    record {
+      text = rw bytes (take-at (bookText book 128 programTables) (drop r lent) r (sym ends));
+      ends = ends;
+      kept = rw bytes (drop-at (bookText book 128 programTables) (drop r lent) r (sym ends));
+    }
+
+-- the text ends on the page
+pub program-inside : {r : ℕ} {given : List ℕ} (book lent : List ℕ) → ProgramPrinted book lent r given → r ≤ length given
+program-inside {r} {given} book lent p = omega (arith, length-take r given, ap length (p .text), p .ends)

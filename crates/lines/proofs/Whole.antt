@@ -1,6 +1,6 @@
 -- The text for answer 0 in document 01's words: the lines `answer`, `sum` and `records`, and then a line for each carrier of a least
 -- plan, with its cells from step 0 to its cost. Assumes nothing.
-use Prim.Native.Nat.{ℕ, zero, suc, _+_, _≤_}
+use Prim.Native.Nat.{ℕ, zero, suc, _+_}
 use native.Mathlib.Omega.{arith}
 use mathlib.Core.List.{List, _++_, append-nil}
 use mathlib.Core.Path.{_≡_, refl, sym, ap, _∙_}
@@ -58,8 +58,8 @@ module _ (book : List ℕ) where
   good-text n ts good = rw (good, bookText) refl
 
   pub plan-printed : (n : ℕ) (ts : Tables) → bookVerdict book ≡ Good → answerTold (planned (jobIn book) n ts .answer) .number ≡ 0
-      → (rs : Routes) × (records : ℕ) × LeastPlan (jobIn book) rs (total (jobIn book) rs) × (records ≤ n)
-      × (bookText book n ts ≡ numberLine answerWord 0 ++ (numberLine sumWord (total (jobIn book) rs) ++ numberLine recordsWord records ++ each (λ i. carrierLine i (jobIn book .goalOf i) (routeOf rs i)) (range 0 (jobIn book .count))))
+      → (rs : Routes) × LeastPlan (jobIn book) rs (total (jobIn book) rs)
+      × (bookText book n ts ≡ numberLine answerWord 0 ++ (numberLine sumWord (total (jobIn book) rs) ++ numberLine recordsWord (answerTold (planned (jobIn book) n ts .answer) .records) ++ each (λ i. carrierLine i (jobIn book .goalOf i) (routeOf rs i)) (range 0 (jobIn book .count))))
   unfolding resultText
   plan-printed n ts good is =
       let f = zero-found (jobIn book) n ts is in
@@ -67,5 +67,12 @@ module _ (book : List ℕ) where
       let carriers : List ℕ = carrierLines (teamIn book) (horizonIn (bodyOf book 3)) (result .tables .output) (teamIn book .count) in
       let same : carriers ≡ routeLines (f .routes) = rw (f .written) (written-lines (f .routes) (ts .output) (f .least .plan .family)) in
       let text : resultText book result ≡ numberLine answerWord 0 ++ (numberLine sumWord (f .sum) ++ numberLine recordsWord (f .records) ++ carriers) = zero-text (result .answer) carriers (f .sum) (f .records) (f .told) in
-      let whole : List ℕ → ℕ → List ℕ = λ xs sum. numberLine answerWord 0 ++ (numberLine sumWord sum ++ numberLine recordsWord (f .records) ++ xs) in
-      (f .routes, f .records, rw (f .least .told) at (f .least), f .made, good-text n ts good ∙ text ∙ ap (λ (xs : List ℕ). whole xs (f .sum)) same ∙ ap (whole (routeLines (f .routes))) (f .least .told))
+      let whole : List ℕ → ℕ → ℕ → List ℕ = λ xs sum records. numberLine answerWord 0 ++ (numberLine sumWord sum ++ numberLine recordsWord records ++ xs) in
+      let told : f .records ≡ answerTold (result .answer) .records = sym (ap (λ (a : Answer). answerTold a .records) (f .told)) in (
+        f .routes,
+        rw (f .least .told) at (f .least),
+        good-text n ts good ∙ text
+            ∙ ap (λ (xs : List ℕ). whole xs (f .sum) (f .records)) same
+            ∙ ap (λ (s : ℕ). whole (routeLines (f .routes)) s (f .records)) (f .least .told)
+            ∙ ap (whole (routeLines (f .routes)) (total (jobIn book) (f .routes))) told,
+      )

@@ -1,10 +1,11 @@
--- Wrong answers of `told_lines`, `answer_lines`, `refusal_lines` and `book_lines`, each refuted at one answer, number or book: the
--- contract with it is false, by computation. Assumes nothing.
-use Prim.Native.Nat.{ℕ}
+-- Wrong answers of `told_lines`, `answer_lines`, `refusal_lines`, `book_lines` and `program_lines`, each refuted at one answer, number
+-- or book: the contract with it is false, by computation. Assumes nothing.
+use Prim.Native.Nat.{ℕ, _+_}
 use native.Mathlib.Omega.{arith}
 use mathlib.Core.List.{List, [], _∷_}
 use mathlib.Core.Path.{_≡_, ap, sym, _∙_}
-use lib.ListN.{getD, replicate}
+use lib.ListN.{length, getD, drop, replicate}
+use lib.Seq.{getD-take, getD-drop}
 use Rattle.lists.specs.Lists.{refuseIf, each}
 use Rattle.routes.specs.Route.{routeIn, stepCost, cost}
 use Rattle.book.specs.Book.{noContents, bookVerdict, ifGood}
@@ -15,7 +16,8 @@ use Rattle.planner.specs.declared.Answer.the-variants.{Short, Full}
 use Rattle.text.specs.Text.{Page, page, putByte, put, digitsWithin, digits}
 use Rattle.lines.specs.Lines.{answerWord, numberLine, cellsText, costLine, carrierLine, carrierLines, planText, restText, toldText, holdsNoPlan, carriersText}
 use Rattle.lines.specs.Printed.{bookText, bookTables, Printed}
-use Rattle.lines.proofs.Example.{programTables, printed-book-text}
+use Rattle.lines.specs.Program.{programTables, programText, ProgramPrinted}
+use Rattle.lines.proofs.Example.{printedText, printed-book-text}
 
 -- a page of so many zeros
 abbrev blank : ℕ → Page
@@ -66,7 +68,7 @@ line-not-ended given e = let z : _≡_ {A = ℕ} 9 10 = ap (λ (p : Page). p .at
 -- document 01's own book has a plan
 pub printed-book-answered-8 : (after : Tables) (given : List ℕ) (r : ℕ) → getD given 7 0 ≡ 56
     → Printed (bookText printedBook 128 programTables) (bookTables printedBook 128 programTables) (replicate 4096 0) r after given → ⊥
-unfolding put putByte
+unfolding put putByte programText
 printed-book-answered-8 after given r wrong p =
     let e : getD given 7 0 ≡ 48 = ap (λ (q : Page). getD (q .bytes) 7 0) (p .printed ∙ ap (put (blank 4096)) printed-book-text) in
     let z : _≡_ {A = ℕ} 56 48 = sym wrong ∙ e in
@@ -78,4 +80,25 @@ pub refused-book-clears-the-output : (n : ℕ) (lent given : List ℕ) (r : ℕ)
 unfolding bookTables bookVerdict refuseIf noContents ifGood
 refused-book-clears-the-output n lent given r before after was wrong p =
     let z : _≡_ {A = ℕ} 0 5 = sym wrong ∙ ap (λ (t : Tables). getD (t .output) 0 0) (p .settled) ∙ was in
+    omega arith
+
+-- ---- program_lines
+
+-- another first line for document 01's own book, as 9 with too few records
+pub printed-book-answered-9 : (lent given : List ℕ) (r : ℕ) → getD given 7 0 ≡ 57 → ProgramPrinted printedBook lent r given → ⊥
+printed-book-answered-9 lent given r wrong p =
+    let ends : r ≡ length printedText = p .ends ∙ ap length printed-book-text in
+    let e : getD given 7 0 ≡ 48 = sym (getD-take r given 7 0 (omega arith)) ∙ ap (λ (text : List ℕ). getD text 7 0) (p .text ∙ printed-book-text) in
+    let z : _≡_ {A = ℕ} 57 48 = sym wrong ∙ e in
+    omega arith
+
+-- its text cut after 64 bytes
+pub printed-book-cut : (lent given : List ℕ) → ProgramPrinted printedBook lent 64 given → ⊥
+printed-book-cut lent given p = let z : 64 ≡ length printedText = p .ends ∙ ap length printed-book-text in omega arith
+
+-- a page that is cleared behind the text, of any book
+pub page-cleared-behind : (book lent given : List ℕ) (r : ℕ) → getD lent r 0 ≡ 5 → getD given r 0 ≡ 0 → ProgramPrinted book lent r given → ⊥
+page-cleared-behind book lent given r was wrong p =
+    let here : (xs : List ℕ) → getD (drop r xs) 0 0 ≡ getD xs r 0 = λ xs. let e : r + 0 ≡ r = omega arith in getD-drop r xs 0 0 ∙ ap (λ (i : ℕ). getD xs i 0) e in
+    let z : _≡_ {A = ℕ} 0 5 = sym wrong ∙ sym (here given) ∙ ap (λ (xs : List ℕ). getD xs 0 0) (p .kept) ∙ here lent ∙ was in
     omega arith

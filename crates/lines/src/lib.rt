@@ -12,6 +12,7 @@ ghost use Rattle.planner.specs.Answer.{planned, answerTold};
 ghost use Rattle.text.specs.Text.{page, put, digits};
 ghost use Rattle.lines.specs.Lines.{answerWord, space, numberLine, pairLine, cellsText, costLine, carrierLine, carrierLines, carriersText, planText, restText, toldText};
 ghost use Rattle.lines.specs.Printed.{jobIn, resultText, bookText, bookTables, Printed};
+ghost use Rattle.lines.specs.Program.{ProgramPrinted};
 
 const SPACE: u8 = 32;
 
@@ -19,6 +20,24 @@ const NEWLINE: u8 = 10;
 
 // Where the hall bytes begin in a book's first body.
 const HALL_AT: usize = 2;
+
+// 'uses N = 128'
+const CAPACITY: usize = 128;
+
+// The program's tables, long enough for every job with that N: 8 columns of N records;
+const COLUMNS: usize = 1024;
+
+// N plans of 8 carriers and 64 steps;
+const PLANS: usize = 65536;
+
+// 64 layers of 256 cells;
+const LAYERS: usize = 16384;
+
+// one plan.
+const OUTPUT: usize = 512;
+
+// The program's page. No text has more than 2,296 bytes: the longest are those of 8 carriers with 64 cells of three digits each.
+pub const PAGE: usize = 4096;
 
 // A word, a number and the end of the line.
 fn put_line(out: &mut [u8], at: usize, word: &[u8], n: usize) -> usize
@@ -244,4 +263,23 @@ pub fn book_lines(
         return job_lines(book, n, columns, plans, layers, output, out);
     }
     refusal_lines(book::book_number(verdict), out)
+}
+
+// The program: a book in, its lines on the page, with tables of its own that suffice for every job.
+pub fn program_lines(book: &[u8], out: &mut [u8; PAGE]) -> usize
+    ensures { λ r. ⌜ ProgramPrinted (now (book .entry)) (now (out .entry)) r (now (out .exit)) ⌝ }
+{
+    let mut columns = [0u16; COLUMNS];
+    let mut plans = [0u8; PLANS];
+    let mut layers = [0u8; LAYERS];
+    let mut output = [0u8; OUTPUT];
+    book_lines(
+        book,
+        CAPACITY,
+        &mut columns,
+        &mut plans,
+        &mut layers,
+        &mut output,
+        out,
+    )
 }

@@ -27,7 +27,9 @@ use Rattle.planner.specs.Post.{Planned}
 use Rattle.planner.specs.declared.Answer.{Answer}
 use Rattle.planner.specs.declared.Answer.the-variants.{Plan, Refused, Short, NoPlan, Full}
 use Rattle.planner.proofs.Known.{Known, known}
-use Rattle.promises.specs.Promises.{Runs, AcceptedExactly, ChecksAcceptExactly, AlwaysNumbered, RefusesFirst, ShortIsSeven, Left, TablesLeft, NothingElse, PlanGiven, ZeroIsLeast, EightIsNone, ByNeed, NineByNeed, MoreAltersNothing, SafeGiven, LeastOfTheSafe, OutputPasses}
+use Rattle.lines.specs.Program.{programTables, programText}
+use Rattle.lines.proofs.Whole.{plan-printed as printed}
+use Rattle.promises.specs.Promises.{Runs, AcceptedExactly, ChecksAcceptExactly, AlwaysNumbered, RefusesFirst, ShortIsSeven, Left, TablesLeft, NothingElse, PlanGiven, ZeroIsLeast, EightIsNone, ByNeed, NineByNeed, MoreAltersNothing, SafeGiven, LeastOfTheSafe, OutputPasses, PlanPrinted}
 use Rattle.promises.specs.Ours.{OurPlanner, OurRoutes, OurMeetings}
 use Rattle.promises.proofs.Checks.{refused, both-pass}
 use Rattle.promises.proofs.Passing.{written-passes}
@@ -268,3 +270,9 @@ output-passes job n before told after r m p e routes meetings =
     let (rs, given) = zero-is-least job n before told after p e in
     let passes : Passes job (after .output) = rw (given .written) (written-passes job rs (given .plan) (before .output) (checks-exactly job .1 (right-given job n before told after p e))) in
     both-pass job (after .output) r m routes meetings .1 passes
+
+-- ---- the program
+
+pub plan-printed : PlanPrinted
+unfolding PlanPrinted programText
+plan-printed book = printed book 128 programTables

@@ -12,11 +12,12 @@
 -- patterns of holds (`Survives`), the lent `Tables`, and the tree's `NeedIs`: crates job, routes, clashes, tree, tables, in specs/.
 use Prim.Native.Nat.{ℕ, _≤_, _<_}
 use mathlib.Core.Path.{_≡_}
-use mathlib.Core.List.{List}
+use mathlib.Core.List.{List, _++_}
 use mathlib.Core.Logic.{_⊎_, _↔_}
 use mathlib.Core.Option.{Option, none, some}
 use mathlib.Core.Bool.{true}
 use lib.ListN.{length, take}
+use Rattle.lists.specs.Lists.{range, each}
 use Rattle.lent.specs.Lent.{zeroed}
 use Rattle.job.specs.Job.{Job, slipOf, planLength, planCell, wrongCapacity}
 use Rattle.job.specs.Due.{RightJob, RightCapacity, Due}
@@ -31,10 +32,16 @@ use Rattle.clashes.specs.Check.{clashTold}
 use Rattle.clashes.specs.First.{RightChoice}
 use Rattle.clashes.specs.declared.Clash.{Clash}
 use Rattle.checks.specs.Demand.{LawfulRoutes, Safe, SafeNear}
-use Rattle.tree.specs.Plan.{Routes, IsPlan, IsSafe, Family, total}
+use Rattle.tree.specs.Plan.{Routes, routeOf, IsPlan, IsSafe, Family, total}
 use Rattle.tree.specs.Tree.{Node}
-use Rattle.tree.specs.Promises.{NeedIs}
+use Rattle.tree.specs.Promises.{LeastPlan, NeedIs}
 use Rattle.tables.specs.Tables.{Tables, columnsLength, plansLength, layersLength, LongTables, planWritten}
+use Rattle.planner.specs.Answer.{answerTold, planned}
+use Rattle.book.specs.Book.{bookVerdict}
+use Rattle.book.specs.declared.BookVerdict.the-variants.{Good}
+use Rattle.lines.specs.Lines.{answerWord, sumWord, recordsWord, numberLine, carrierLine}
+use Rattle.lines.specs.Printed.{jobIn}
+use Rattle.lines.specs.Program.{programTables, programText}
 
 -- a planner, and a check, as their callers see them
 abbrev pub Planner : Type 1
@@ -219,3 +226,17 @@ unfoldable pub ChosenTold : Check → Type 0
 ChosenTold meetings =
     (job : Job) (plan : List ℕ) (m : Fault) → meetings job plan m → RightJob job → planLength job ≤ length plan
     → (c : Clash) × RightChoice (planCell job plan) (slipOf job) (job .horizon) (job .count) c × (m ≡ clashTold c)
+
+-- ---- Beside the demands, document 01: 'The program reads at most 293 bytes from standard input, uses N = 128 and prints.'
+--
+-- `ProgramPrinted book lent r given` is the whole contract of `lines::program_lines` (crate lines, specs/Program.antt), to which the
+-- program hands the bytes that it read: the first r bytes of the page are all of `programText book`, and no byte after them has changed.
+-- There too: 293 bytes cut no accepted book (`AcceptedShort`, `AcceptedUncut`).
+
+-- [plan-printed] 'For 0, then `sum`, `records`, and for each carrier its number, cost and cells from step 0 to its cost.' The routes are a
+-- plan of the job in the book, with no smaller sum; the records are those told; no carrier is left out
+unfoldable pub PlanPrinted : Type 0
+PlanPrinted =
+    (book : List ℕ) → bookVerdict book ≡ Good → answerTold (planned (jobIn book) 128 programTables .answer) .number ≡ 0
+    → (rs : Routes) × LeastPlan (jobIn book) rs (total (jobIn book) rs)
+    × (programText book ≡ numberLine answerWord 0 ++ (numberLine sumWord (total (jobIn book) rs) ++ numberLine recordsWord (answerTold (planned (jobIn book) 128 programTables .answer) .records) ++ each (λ i. carrierLine i (jobIn book .goalOf i) (routeOf rs i)) (range 0 (jobIn book .count))))
