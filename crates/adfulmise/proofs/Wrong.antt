@@ -17,7 +17,8 @@ use Rattle.planner.proofs.Stars.{last-job-holds}
 use Rattle.carriers.specs.Lent.{recordsTeam}
 use Rattle.carriers.proofs.Padded.{job-padded}
 use Rattle.entry.proofs.Wrong.{lentCrossing, lent-always-passes-routes, lent-always-passes-meetings}
-use Rattle.book.specs.Book.{bodyOf}
+use Rattle.lists.specs.Lists.{refuseIf}
+use Rattle.book.specs.Book.{noContents, bookVerdict, ifGood, askedVerdict, bodyOf, bodyPlace}
 use Rattle.book.proofs.Example.{printedBook, printed-carriers}
 use Rattle.adfulmise.specs.Lent.{written}
 use Rattle.adfulmise.specs.Post.{Answered, Checked, Read}
@@ -83,3 +84,8 @@ unfolding written
 end-for-length r p =
     let told : 31 ≡ length (bodyOf printedBook 2) = ap (λ (l : List ℕ). getD l 1 0) (p .place) in
     let z : _≡_ {A = ℕ} 31 4 = told ∙ ap length printed-carriers in omega arith
+
+-- a refusal, of no bytes at all, with the place where the first body would begin
+pub refusal-with-a-place : (r : ℕ) → Read [] 1 (0 ∷ 0 ∷ []) r (16 ∷ 0 ∷ []) → ⊥
+unfolding written refuseIf noContents bookVerdict ifGood askedVerdict bodyOf bodyPlace
+refusal-with-a-place r p = let z : _≡_ {A = ℕ} 16 0 = ap (λ (l : List ℕ). getD l 0 0) (p .place) in omega arith
