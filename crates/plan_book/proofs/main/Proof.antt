@@ -1,7 +1,8 @@
--- The text ends inside the buffer, as `book_lines` says. Assumes nothing.
+-- The text ends on the page, as `program_lines` says. Assumes nothing.
 use mathlib.Core.Path.{sym}
 use lib.Seq.{length-take-le}
 use borrow.Author.Needs.{needs}
+use Rattle.lines.proofs.Program.{program-inside}
 use Rattle.plan_book.proofs.main.Statement.{statement}
 use Rattle.plan_book.proofs.main.Tie as tie
 
@@ -14,34 +15,19 @@ read-full-requires c κs = search needs
 array-share-prefix-book : tie.Need-array-share-prefix-book
 array-share-prefix-book c = search needs
 
-slice-aggregate-book-lines : tie.Need-slice-aggregate-book-lines
-slice-aggregate-book-lines c = search needs
+slice-aggregate-program-lines : tie.Need-slice-aggregate-program-lines
+slice-aggregate-program-lines c = search needs
 
-slice-aggregate-book-lines-2 : tie.Need-slice-aggregate-book-lines-2
-slice-aggregate-book-lines-2 c = search needs
-
-slice-aggregate-book-lines-3 : tie.Need-slice-aggregate-book-lines-3
-slice-aggregate-book-lines-3 c = search needs
-
-slice-aggregate-book-lines-4 : tie.Need-slice-aggregate-book-lines-4
-slice-aggregate-book-lines-4 c = search needs
-
-slice-aggregate-book-lines-5 : tie.Need-slice-aggregate-book-lines-5
-slice-aggregate-book-lines-5 c = search needs
-
-slice-aggregate-book-lines-6 : tie.Need-slice-aggregate-book-lines-6
-slice-aggregate-book-lines-6 c = search needs
-
-book-lines-requires : tie.Need-book-lines-requires
-book-lines-requires c κs = search needs
+program-lines-requires : tie.Need-program-lines-requires
+program-lines-requires c κs = search needs
 
 array-share-prefix-out : tie.Need-array-share-prefix-out
-array-share-prefix-out c = search needs
+array-share-prefix-out c = program-inside _ _ (c .program-lines .ensures)
 
 slice-aggregate-write-all : tie.Need-slice-aggregate-write-all
 slice-aggregate-write-all c =
-    let said = c .before .before .before .before .before .before .book-lines in
-    sym (length-take-le (said .result) (said .last .1 .1 .1 .1 .1 .1 .0) (said .ensures .inside))
+    let said = c .before .program-lines in
+    sym (length-take-le (said .result) (said .last .1 .0) (program-inside _ _ (said .ensures)))
 
 write-all-requires : tie.Need-write-all-requires
 write-all-requires c κs = search needs
@@ -56,13 +42,8 @@ main-spec =
     slice-aggregate-read-full
     read-full-requires
     array-share-prefix-book
-    slice-aggregate-book-lines
-    slice-aggregate-book-lines-2
-    slice-aggregate-book-lines-3
-    slice-aggregate-book-lines-4
-    slice-aggregate-book-lines-5
-    slice-aggregate-book-lines-6
-    book-lines-requires
+    slice-aggregate-program-lines
+    program-lines-requires
     array-share-prefix-out
     slice-aggregate-write-all
     write-all-requires
