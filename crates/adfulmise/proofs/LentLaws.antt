@@ -9,7 +9,7 @@ use borrow.Author.Tests.{lt-ltb, le-ltb}
 use Rattle.job.specs.Job.{Job}
 use Rattle.job.specs.declared.Fault.{Fault}
 use Rattle.tables.specs.Tables.{Tables}
-use Rattle.planner.specs.Answer.{planned, answerTold}
+use Rattle.planner.specs.Answer.{answerTold}
 use Rattle.planner.specs.Post.{Planned}
 use Rattle.planner.specs.Promises.{Promised}
 use Rattle.planner.specs.declared.Answer.{Answer}

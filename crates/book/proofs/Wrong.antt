@@ -10,7 +10,7 @@ use denote.Ref.{RefT}
 use lib.ListN.{getD, length, take, drop}
 use Rattle.lists.specs.Lists.{refuseIf}
 use Rattle.book.specs.declared.BookVerdict.the-variants.{Good, WrongKinds, WrongBodies, WrongLengths, NoKind}
-use Rattle.book.specs.Book.{bookNumber, lowHigh, entryKind, entryOffset, entryLength, entryBody, noContents, wrongKinds, wrongBodies, wrongLengths, bookVerdict, noKind, ifGood, askedVerdict, bodyOf, bodyPlace}
+use Rattle.book.specs.Book.{bookNumber, lowHigh, entryKind, entryOffset, entryLength, noContents, wrongKinds, wrongBodies, bookVerdict, noKind, ifGood, askedVerdict, bodyOf, bodyPlace}
 use Rattle.book.specs.Handed.{Handed}
 use Rattle.book.proofs.Example.{printedBook, printed-good, printed-carriers, printed-limits, printed-places}
 use Rattle.book.proofs.Verdicts.{asked-kind, asked-three, refused-empty}

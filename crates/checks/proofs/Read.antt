@@ -3,7 +3,7 @@
 use Prim.Native.Nat.{ℕ, _+_, _-_, _*_, _≤_, _<_}
 use native.Mathlib.Omega.{arith}
 use native.Mathlib.Decide.{decLe}
-use mathlib.Core.Path.{_≡_, sym, ap, _∙_}
+use mathlib.Core.Path.{_≡_, sym, ap}
 use mathlib.Core.List.{List}
 use borrow.Author.Tests.{le-ltb}
 use lib.ListN.{length, take}
@@ -13,7 +13,7 @@ use Rattle.lists.proofs.Parts.{part-within}
 use Rattle.lists.proofs.Passing.{first-same}
 use Rattle.job.specs.Job.{Job, slipOf, mostSlip, planLength, planCell}
 use Rattle.job.specs.Verdict.{judge, ifAccepted}
-use Rattle.routes.specs.Check.{Place, places, wrongAt, firstWrongPlace, placeVerdict, planVerdict, routeVerdict}
+use Rattle.routes.specs.Check.{places, wrongAt, firstWrongPlace, placeVerdict, planVerdict, routeVerdict}
 use Rattle.routes.specs.declared.RouteVerdict.the-variants.{Refused}
 use Rattle.clashes.specs.Check.{planClash, compared, meetingVerdict}
 use Rattle.clashes.specs.declared.MeetingVerdict.the-variants.{Compared, Refused as NotCompared}

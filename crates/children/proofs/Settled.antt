@@ -7,7 +7,6 @@ use mathlib.Core.Bool.{Bool, true, false}
 use mathlib.Core.List.{List, []}
 use lib.ListN.{length}
 use Rattle.routes.specs.Bars.{Barred}
-use Rattle.routes.specs.declared.Bar.{Bar}
 use Rattle.routes.specs.declared.Bar.the-variants.{Free}
 use Rattle.layers.proofs.Settled.{filled-settled}
 use Rattle.tree.specs.Tree.{root, child}

@@ -7,14 +7,14 @@ use mathlib.Core.Option.{Option, none, some}
 use native.Mathlib.Omega.{arith}
 use lib.Dec.{T}
 use Rattle.lists.specs.Lists.{range, firstOf, Every}
-use Rattle.lists.proofs.Every.{every-map, every-below}
-use Rattle.lists.proofs.Orders.{LeastFact, first-least, Ordered, ordered-append, ordered-map, ordered-each, ordered-range}
+use Rattle.lists.proofs.Every.{every-below}
+use Rattle.lists.proofs.Orders.{LeastFact, first-least, Ordered, ordered-append, ordered-each, ordered-range, ordered-rows}
 use Rattle.lists.proofs.Passing.{FirstFact}
 use Rattle.clashes.specs.First.{NotLater, ChosenFact, RightChoice}
 use Rattle.clashes.specs.Chosen.{happens, overPairs, atStep, candidates, orClear, chosen}
 use Rattle.clashes.specs.declared.Clash.{Clash}
 use Rattle.clashes.specs.declared.Clash.the-variants.{Clear, Meeting, Swap}
-use Rattle.clashes.proofs.Candidates.{Listed, row, meetingsAt, every-pair, every-meeting, every-at-step, candidate-every, first-passed, meeting-passes, swap-passes}
+use Rattle.clashes.proofs.Candidates.{Listed, meetingsAt, every-pair, every-meeting, every-at-step, candidate-every, first-passed, meeting-passes, swap-passes}
 use Rattle.clashes.proofs.Chosen.{chosen-fact}
 
 not-later-self : (c : Clash) → NotLater c c
@@ -28,16 +28,7 @@ not-later-self (Swap i j t) = omega arith
 module _ (m : ℕ) where
   pairs-in-order : (clash : ℕ → ℕ → Clash) → ((i j j' : ℕ) → j < j' → NotLater (clash i j) (clash i j')) → ((i j i' j' : ℕ) → i < i' → NotLater (clash i j) (clash i' j')) → Ordered NotLater (overPairs m clash)
   unfolding overPairs
-  pairs-in-order clash inner outer =
-      ordered-each NotLater (row m clash) (range 0 m)
-      (every-below (λ i. Ordered NotLater (row m clash i)) m
-      (λ i im. ordered-map NotLater (λ j. clash i j) (range 0 m) (ordered-range (λ j j'. NotLater (clash i j) (clash i j')) 0 m (λ j j' _ less _. inner i j j' less))))
-      (ordered-range (λ i i'. Every (λ x. Every (NotLater x) (row m clash i')) (row m clash i)) 0 m
-      (λ i i' _ less _.
-      every-map (λ x. Every (NotLater x) (row m clash i')) (λ j. clash i j) (range 0 m)
-      (every-below (λ j. Every (NotLater (clash i j)) (row m clash i')) m
-      (λ j _. every-map (NotLater (clash i j)) (λ j. clash i' j) (range 0 m)
-      (every-below (λ j'. NotLater (clash i j) (clash i' j')) m (λ j' _. outer i j i' j' less))))))
+  pairs-in-order clash inner outer = ordered-rows NotLater clash (λ i. 0) (λ i. m) inner outer m
 
   module _ (most : ℕ) where
     meetings-in-order : (t : ℕ) → Ordered NotLater (meetingsAt m most t)

@@ -1,21 +1,21 @@
 -- Rows 0 to 6 of document 01's table are what `judgeWith` gives: each test fails exactly where its fact holds, the checks come in the
 -- order of their numbers, and the first that is found is the first in the order told. Assumes nothing.
-use Prim.Native.Nat.{ℕ, zero, suc, _-_, _*_, _≤_, _<_}
+use Prim.Native.Nat.{ℕ, suc, _-_, _≤_, _<_}
 use native.Mathlib.Omega.{arith}
-use mathlib.Core.Path.{_≡_, refl, sym, ap, _∙_}
-use mathlib.Core.Bool.{Bool, true, false, not, _&&_, _||_}
-use mathlib.Core.List.{List, [], _∷_, map, List·Memᴰ}
+use mathlib.Core.Path.{_≡_, refl, ap}
+use mathlib.Core.Bool.{Bool, true, false, not, _||_}
+use mathlib.Core.List.{List, map, List·Memᴰ}
 use mathlib.Core.Logic.{_⊎_, inl, inr, _↔_}
 use mathlib.Core.Option.{Option, none, some}
 use lib.Dec.{T, eqb, ltb}
 use lib.ListN.{length, getD}
-use borrow.Author.Tests.{eqb-true, eqb-false, ltb-true, ltb-false, lt-ltb, le-ltb, eq-eqb, ne-eqb, not-true, not-false}
-use Rattle.lists.specs.Lists.{range, anyOf, Every, firstOf, refuseIf}
-use Rattle.lists.proofs.Tests.{is-true, is-false, of-true, of-false, not-both, and-both, both-and, or-fails, or-either, or-left, or-right}
+use borrow.Author.Tests.{eqb-true, eqb-false, ltb-true, ltb-false, lt-ltb, le-ltb, eq-eqb, ne-eqb, not-false}
+use Rattle.lists.specs.Lists.{range, anyOf, Every, refuseIf}
+use Rattle.lists.proofs.Tests.{is-true, is-false, of-true, of-false, not-both, and-both, both-and, or-fails, both-fail, not-fails, or-either, or-left, or-right}
 use Rattle.lists.proofs.Every.{every-member, every-map, every-each, every-range, every-below}
-use Rattle.lists.proofs.Orders.{Ordered, ordered-each, ordered-map, ordered-range, LeastFact, first-least}
+use Rattle.lists.proofs.Orders.{Ordered, ordered-range, ordered-rows, LeastFact, first-least}
 use Rattle.lists.proofs.Members.{member-range, member-map, member-each}
-use Rattle.lists.proofs.Passing.{any-cons, FirstFact, first-fact}
+use Rattle.lists.proofs.Passing.{fails-at, at-fails, FirstFact, first-fact}
 use Rattle.hall.specs.Hall.{size, wrongSide, wrongGrid, wrongByte, wrongBytes, isOpen}
 use Rattle.hall.proofs.RightHall.{grid-right, bytes-right}
 use Rattle.job.specs.Job.{Job, Pair, wrongLimits, wrongCapacity, wrongCount, wrongEnds, firstWrong, share, pairs, firstShared}
@@ -26,14 +26,6 @@ use Rattle.job.specs.declared.Verdict.{Verdict}
 use Rattle.job.specs.declared.Verdict.the-variants.{Accepted, WrongGrid, WrongBytes, WrongLimits, WrongCount, WrongEnds, SharedEnds}
 
 -- ---- each test fails exactly where its fact holds
-
--- a test made of two
-both-fail : (a b : Bool) → a ≡ false → b ≡ false → (a || b) ≡ false
-both-fail a b e f = rw (e, f) refl
-
-not-fails : (b : Bool) → T b → not b ≡ false
-not-fails true t = refl
-not-fails false t = elim t [ ]
 
 side-fails : (n : ℕ) → 1 ≤ n → n ≤ 16 → wrongSide n ≡ false
 unfolding wrongSide
@@ -58,17 +50,6 @@ known-byte : (b : ℕ) → (b ≡ 46) ⊎ (b ≡ 35) → wrongByte b ≡ false
 unfolding wrongByte
 known-byte b (inl e) = rw e refl
 known-byte b (inr e) = rw e refl
-
--- no entry passes exactly where the test fails at each place
-fails-at : (p : ℕ → Bool) (xs : List ℕ) → anyOf p xs ≡ false → (i : ℕ) → i < length xs → p (getD xs i 0) ≡ false
-fails-at p [] e i l = absurd (omega arith)
-fails-at p (x ∷ xs) e zero l = or-fails (p x) (anyOf p xs) (sym (any-cons p x xs) ∙ e) .0
-fails-at p (x ∷ xs) e (suc i) l = fails-at p xs (or-fails (p x) (anyOf p xs) (sym (any-cons p x xs) ∙ e) .1) i (omega arith)
-
-at-fails : (p : ℕ → Bool) (xs : List ℕ) → ((i : ℕ) → i < length xs → p (getD xs i 0) ≡ false) → anyOf p xs ≡ false
-unfolding anyOf
-at-fails p [] h = refl
-at-fails p (x ∷ xs) h = any-cons p x xs ∙ both-fail (p x) (anyOf p xs) (h 0 (omega arith)) (at-fails p xs (λ i l. h (suc i) (omega arith)))
 
 bytes-exact : (job : Job) → (wrongBytes (job .hall) ≡ false) ↔ RightBytes job
 unfolding wrongBytes
@@ -167,15 +148,7 @@ NotAfter p q = (p .one ≤ q .one) × (p .one ≡ q .one → p .two ≤ q .two)
 
 pairs-ordered : (m : ℕ) → Ordered NotAfter (pairs m)
 unfolding pairs
-pairs-ordered m =
-    ordered-each NotAfter (row m) (range 0 m)
-    (every-below (λ i. Ordered NotAfter (row m i)) m
-    (λ i l. ordered-map NotAfter (pair i) (range (suc i) (m - suc i)) (ordered-range (λ a b. NotAfter (pair i a) (pair i b)) (suc i) (m - suc i) (λ a b low less high. (omega arith, λ e. omega arith)))))
-    (ordered-range (λ a b. Every (λ x. Every (NotAfter x) (row m b)) (row m a)) 0 m
-    (λ a b low less high.
-    every-map (λ x. Every (NotAfter x) (row m b)) (pair a) (range (suc a) (m - suc a))
-    (every-range (λ j. Every (NotAfter (pair a j)) (row m b)) (suc a) (m - suc a)
-    (λ j lo hi. every-map (NotAfter (pair a j)) (pair b) (range (suc b) (m - suc b)) (every-range (λ k. NotAfter (pair a j) (pair b k)) (suc b) (m - suc b) (λ k lo' hi'. (omega arith, λ e. absurd (omega arith))))))))
+pairs-ordered m = ordered-rows NotAfter pair suc (λ i. m - suc i) (λ i j j' less. (omega arith, λ e. omega arith)) (λ i j i' j' less. (omega arith, λ e. absurd (omega arith))) m
 
 pairs-have : (m i j : ℕ) → i < j → j < m → List·Memᴰ (record { one = i; two = j }) (pairs m)
 unfolding pairs

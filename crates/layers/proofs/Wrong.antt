@@ -2,7 +2,7 @@
 -- antt computes the best route there. Assumes nothing.
 use Prim.Native.Nat.{ℕ, _%_}
 use native.Mathlib.Omega.{arith}
-use mathlib.Core.Path.{_≡_, ap, _∙_}
+use mathlib.Core.Path.{_≡_, ap}
 use mathlib.Core.List.{List, [], _∷_}
 use lib.ListN.{getD}
 use Rattle.lists.specs.Lists.{range, only, keep, anyOf, each}
@@ -12,7 +12,7 @@ use Rattle.routes.specs.Route.{stepCost, cost}
 use Rattle.routes.specs.Bars.{mayStand, mayTurn}
 use Rattle.routes.specs.Best.{cheaper, better, bestOf, inFront, bestWay}
 use Rattle.layers.specs.Fill.{lentHall}
-use Rattle.layers.specs.Layers.{routeFrom, soughtOf}
+use Rattle.layers.specs.Layers.{soughtOf}
 use Rattle.layers.specs.Post.{SoughtRoute}
 use Rattle.layers.specs.declared.Sought.{Sought}
 use Rattle.layers.specs.declared.Sought.the-variants.{Nothing, Cost}

@@ -6,7 +6,7 @@ use native.Mathlib.Omega.{arith}
 use mathlib.Core.Bool.{true, false, true≢false}
 use mathlib.Core.List.{List, _++_}
 use mathlib.Core.Path.{_≡_, sym, ap, _∙_}
-use lib.ListN.{length, getD, take, drop, length-take, length-replicate}
+use lib.ListN.{length, getD, drop, length-take, length-replicate}
 use lib.Seq.{take-at, drop-at}
 use borrow.Author.Tests.{le-ltb}
 use Rattle.hall.proofs.HallCode.{area-small, layers-small}
@@ -21,7 +21,7 @@ use Rattle.book.specs.declared.BookVerdict.{BookVerdict}
 use Rattle.book.specs.declared.BookVerdict.the-variants.{Good, NoContents, WrongKinds, WrongBodies, WrongLengths, NoKind}
 use Rattle.text.specs.Text.{digitsWithin, digits}
 use Rattle.text.proofs.TextLaws.{digits-one}
-use Rattle.lines.specs.Lines.{answerWord, numberLine, restText, toldText}
+use Rattle.lines.specs.Lines.{answerWord, numberLine, toldText}
 use Rattle.lines.specs.Printed.{jobIn, resultText, bookText, bookTables, Printed}
 use Rattle.lines.specs.Program.{programTables, programText, ProgramPrinted}
 use Rattle.lines.proofs.Answers.{seven-short, told-small}

@@ -10,7 +10,7 @@ use mathlib.Core.Option.{Option, none, some}
 use lib.Dec.{T}
 use Rattle.lists.specs.Lists.{range, only, keep, each, firstOf, Every}
 use Rattle.lists.proofs.Members.{member-each, member-range}
-use Rattle.lists.proofs.Every.{every-imply, every-member, every-append, only-every, keep-every, every-map, every-each, every-exchange, every-range}
+use Rattle.lists.proofs.Every.{every-imply, every-member, every-append, only-every, keep-every, every-map, every-each, every-exchange, every-range, every-below}
 
 unfoldable pub Ordered : {A : Type 0} → (A → A → Type 0) → List A → Type 0
 Ordered R [] = Unit {0}
@@ -63,6 +63,22 @@ unfolding Ordered range
 ordered-range R a zero h = tt
 ordered-range R a (suc n) h =
     (every-range (R a) (suc a) n (λ i low high. h a i (omega arith) (omega arith) (omega arith)), ordered-range R (suc a) n (λ i j low less high. h i j (omega arith) less (omega arith)))
+
+-- rows of things numbered twice, row by row and in a row from its own start on, are in an order that goes by the row and then by the place
+module _ {A : Type 0} (R : A → A → Type 0) (thing : ℕ → ℕ → A) (start size : ℕ → ℕ) where
+  abbrev row : ℕ → List A
+  row i = map (thing i) (range (start i) (size i))
+
+  pub ordered-rows : ((i j j' : ℕ) → j < j' → R (thing i j) (thing i j')) → ((i j i' j' : ℕ) → i < i' → R (thing i j) (thing i' j')) → (m : ℕ) → Ordered R (each row (range 0 m))
+  ordered-rows inner outer m =
+      ordered-each R row (range 0 m)
+      (every-below (λ i. Ordered R (row i)) m
+      (λ i _. ordered-map R (thing i) (range (start i) (size i)) (ordered-range (λ j j'. R (thing i j) (thing i j')) (start i) (size i) (λ j j' _ less _. inner i j j' less))))
+      (ordered-range (λ i i'. Every (λ x. Every (R x) (row i')) (row i)) 0 m
+      (λ i i' _ less _.
+      every-map (λ x. Every (R x) (row i')) (thing i) (range (start i) (size i))
+      (every-range (λ j. Every (R (thing i j)) (row i')) (start i) (size i)
+      (λ j _ _. every-map (R (thing i j)) (thing i') (range (start i') (size i')) (every-range (λ j'. R (thing i j) (thing i' j')) (start i') (size i') (λ j' _ _. outer i j i' j' less))))))
 
 -- ---- the first that passes
 

@@ -1,14 +1,15 @@
 -- One of a list that passes a test, and the first that does: what it tells of the list, and how it is found one entry at a time.
 -- By induction on the list. Assumes nothing.
-use Prim.Native.Nat.{ℕ}
+use Prim.Native.Nat.{ℕ, zero, suc, _<_}
 use native.Mathlib.Omega.{arith}
-use mathlib.Core.Path.{_≡_, refl, sym, subst}
+use mathlib.Core.Path.{_≡_, refl, sym, subst, _∙_}
 use mathlib.Core.Bool.{Bool, true, false, not, _&&_, _||_}
 use mathlib.Core.List.{List, [], _∷_, _++_, List·Memᴰ, List·Memᴰ·head, List·Memᴰ·tail}
 use mathlib.Core.Option.{Option, none, some, Option·some-ne-none}
 use lib.Dec.{T, eqb, eqb→eq, T-not, not-T}
 use Rattle.lists.specs.Lists.{only, keep, anyOf, firstOf, Every}
-use Rattle.lists.proofs.Tests.{and-both, both-and, same-test}
+use lib.ListN.{length, getD}
+use Rattle.lists.proofs.Tests.{and-both, both-and, or-fails, both-fail, same-test}
 use Rattle.lists.proofs.Members.{keep-member, member-keep}
 
 -- ---- does one of them pass?
@@ -69,6 +70,17 @@ module _ {A : Type 0} (p : A → Bool) where
 
   pub pass-none : (xs : List A) → ((x : A) → List·Memᴰ x xs → T (p x) → ⊥) → T (not (anyOf p xs))
   pass-none xs h = not-T (anyOf p xs) (λ t. let (x, m, q) = any-member xs t in h x m q)
+
+-- no entry passes exactly where the test fails at each place
+pub fails-at : (p : ℕ → Bool) (xs : List ℕ) → anyOf p xs ≡ false → (i : ℕ) → i < length xs → p (getD xs i 0) ≡ false
+fails-at p [] e i l = absurd (omega arith)
+fails-at p (x ∷ xs) e zero l = or-fails (p x) (anyOf p xs) (sym (any-cons p x xs) ∙ e) .0
+fails-at p (x ∷ xs) e (suc i) l = fails-at p xs (or-fails (p x) (anyOf p xs) (sym (any-cons p x xs) ∙ e) .1) i (omega arith)
+
+pub at-fails : (p : ℕ → Bool) (xs : List ℕ) → ((i : ℕ) → i < length xs → p (getD xs i 0) ≡ false) → anyOf p xs ≡ false
+unfolding anyOf
+at-fails p [] h = refl
+at-fails p (x ∷ xs) h = any-cons p x xs ∙ both-fail (p x) (anyOf p xs) (h 0 (omega arith)) (at-fails p xs (λ i l. h (suc i) (omega arith)))
 
 -- x is one of those that are kept
 pub any-kept : (p : ℕ → Bool) (x : ℕ) (ys : List ℕ) → (p x && anyOf (eqb x) ys) ≡ anyOf (eqb x) (keep p ys)

@@ -59,6 +59,13 @@ pub or-fails : (a b : Bool) → (a || b) ≡ false → (a ≡ false) × (b ≡ f
 or-fails true b e = absurd (true≢false e)
 or-fails false b e = (refl, e)
 
+pub both-fail : (a b : Bool) → a ≡ false → b ≡ false → (a || b) ≡ false
+both-fail a b e f = rw (e, f) refl
+
+pub not-fails : (b : Bool) → T b → not b ≡ false
+not-fails true t = refl
+not-fails false t = elim t [ ]
+
 pub eq-test : (a b : ℕ) → a ≡ b → T (eqb a b)
 eq-test a b e = subst (λ c. T (eqb a c)) e (eqb-refl a)
 

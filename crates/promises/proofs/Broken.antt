@@ -6,7 +6,7 @@ use native.Mathlib.Omega.{arith}
 use native.Mathlib.Decide.{decLe}
 use mathlib.Core.Path.{_≡_, refl, sym, ap, subst, _∙_}
 use mathlib.Core.Bool.{false}
-use mathlib.Core.List.{List, [], _∷_, List·Memᴰ}
+use mathlib.Core.List.{List, [], List·Memᴰ}
 use mathlib.Core.Option.{Option, none, some}
 use lib.ListN.{getD}
 use Rattle.lists.specs.Lists.{range, sumTo, only, keep, anyOf, firstOf, each, Every, refuseIf}
@@ -28,13 +28,11 @@ use Rattle.clashes.specs.Chosen.{written, meets, swaps, happens, overPairs, atS
 use Rattle.checks.specs.Demand.{Passes, Safe}
 use Rattle.checks.proofs.Broken.{crossing, followed, oneCell, standing, always-passes-meetings}
 use Rattle.checks.proofs.Demand.{plan-check-exact, zero-is-lawful, zero-is-safe}
-use Rattle.tree.specs.Plan.{Routes, IsPlan, total}
-use Rattle.tree.specs.Promises.{NeedIs}
 use Rattle.tree.specs.Tree.{Node, routeUnder, withRoute, freeRoutes, rootOf, root, clashOf, barOne, barTwo, childWith, child, kidsFor, kids}
 use Rattle.tree.proofs.Promises.{need-one}
 use Rattle.tables.specs.Tables.{Tables, shortTable, planWritten}
 use Rattle.tables.proofs.LongTables.{long-exact}
-use Rattle.planner.specs.Answer.{answerTold, planned}
+use Rattle.planner.specs.Answer.{planned}
 use Rattle.planner.specs.Stars.{Star, starJob, starTables, Seen, asked, given, stars, lastJob}
 use Rattle.planner.proofs.Promises.{planned-promised}
 use Rattle.planner.proofs.Stars.{stars-hold}

@@ -4,24 +4,20 @@ use Prim.Native.Nat.{ℕ, _+_, _≤_, _<_}
 use native.Mathlib.Omega.{arith}
 use native.Mathlib.Nat.{le-refl}
 use mathlib.Core.Path.{_≡_, refl, sym, ap, _∙_}
-use mathlib.Core.Bool.{true}
-use mathlib.Core.List.{List, map}
+use mathlib.Core.List.{List}
 use mathlib.Core.Logic.{_⊎_, inl, inr, _↔_}
 use mathlib.Core.Option.{Option, none, some}
 use lib.Dec.{T}
-use lib.ListN.{length, take}
+use lib.ListN.{length}
 use borrow.Author.Tests.{lt-ltb}
-use Rattle.lists.specs.Lists.{range, firstOf, Every}
 use Rattle.lists.proofs.Tests.{is-true, of-true}
-use Rattle.lists.proofs.Every.{every-member, every-map, every-range, every-below}
-use Rattle.lists.proofs.Orders.{Ordered, ordered-each, ordered-map, ordered-range, LeastFact, first-least}
+use Rattle.lists.proofs.Every.{every-member}
+use Rattle.lists.proofs.Orders.{Ordered, ordered-rows, LeastFact, first-least}
 use Rattle.lists.proofs.Passing.{FirstFact}
 use Rattle.job.specs.Job.{Job, slipOf, mostSlip, planLength, planCell}
-use Rattle.job.specs.Due.{RightJob, Due}
 use Rattle.job.specs.Told.{bare, refusal}
 use Rattle.job.specs.Verdict.{judge, verdictTold, ifAccepted, IsAccepted}
 use Rattle.job.specs.declared.Fault.{Fault}
-use Rattle.job.specs.declared.Told.{Told}
 use Rattle.job.specs.declared.Verdict.{Verdict}
 use Rattle.job.specs.declared.Verdict.the-variants.{Accepted, WrongGrid, WrongBytes, WrongLimits, WrongCount, WrongEnds, SharedEnds}
 use Rattle.job.proofs.Due.{checks-accept-exactly as exactly, check-due}
@@ -118,23 +114,12 @@ plan-is-read job plan r r′ m m′ routes routes′ meetings meetings′ = (
 abbrev place : ℕ → ℕ → Place
 place i t = record { carrier = i; step = t }
 
-abbrev row : ℕ → ℕ → List Place
-row h i = map (place i) (range 0 (h + 1))
-
 abbrev NotAfter : Place → Place → Type 0
 NotAfter p q = (p .carrier ≤ q .carrier) × (p .carrier ≡ q .carrier → p .step ≤ q .step)
 
 places-ordered : (m h : ℕ) → Ordered NotAfter (places m h)
 unfolding places
-places-ordered m h =
-    ordered-each NotAfter (row h) (range 0 m)
-    (every-below (λ i. Ordered NotAfter (row h i)) m
-    (λ i l. ordered-map NotAfter (place i) (range 0 (h + 1)) (ordered-range (λ a b. NotAfter (place i a) (place i b)) 0 (h + 1) (λ a b low less high. (omega arith, λ e. omega arith)))))
-    (ordered-range (λ a b. Every (λ x. Every (NotAfter x) (row h b)) (row h a)) 0 m
-    (λ a b low less high.
-    every-map (λ x. Every (NotAfter x) (row h b)) (place a) (range 0 (h + 1))
-    (every-range (λ t. Every (NotAfter (place a t)) (row h b)) 0 (h + 1)
-    (λ t lo hi. every-map (NotAfter (place a t)) (place b) (range 0 (h + 1)) (every-range (λ s. NotAfter (place a t) (place b s)) 0 (h + 1) (λ s lo' hi'. (omega arith, λ e. absurd (omega arith))))))))
+places-ordered m h = ordered-rows NotAfter place (λ i. 0) (λ i. h + 1) (λ i t t' less. (omega arith, λ e. omega arith)) (λ i t i' t' less. (omega arith, λ e. absurd (omega arith))) m
 
 module _ (job : Job) (plan : List ℕ) (accepted : IsAccepted job) (long : planLength job ≤ length plan) where
   abbrev Found : Option Place → Type 0

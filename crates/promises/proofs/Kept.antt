@@ -23,7 +23,6 @@ use Rattle.tables.specs.Tables.{Tables, shortTable, LongTables, workedOn, planW
 use Rattle.tables.proofs.LongTables.{long-exact}
 use Rattle.planner.specs.Answer.{answerTold, Result, searched, enough, planned}
 use Rattle.planner.specs.Promises.{Promised}
-use Rattle.planner.specs.Post.{Planned}
 use Rattle.planner.specs.declared.Answer.{Answer}
 use Rattle.planner.specs.declared.Answer.the-variants.{Plan, Refused, Short, NoPlan, Full}
 use Rattle.planner.proofs.Known.{Known, known}

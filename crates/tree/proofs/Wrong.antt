@@ -1,13 +1,12 @@
 -- Wrong turns of rules 5 and 6, each refuted at a node of two carriers: antt computes what the definition says there. Assumes nothing.
 use Prim.Native.Nat.{ℕ}
 use native.Mathlib.Omega.{arith}
-use mathlib.Core.Path.{_≡_, sym, ap}
+use mathlib.Core.Path.{_≡_, ap}
 use mathlib.Core.Bool.{true≢false}
 use mathlib.Core.List.{List, [], _∷_}
 use Rattle.lists.specs.Lists.{range, each, firstOf}
 use Rattle.job.specs.Job.{Job}
 use Rattle.routes.specs.Bars.{Barred}
-use Rattle.routes.specs.declared.Bar.{Bar}
 use Rattle.routes.specs.declared.Bar.the-variants.{Free, Stay, Cross}
 use Rattle.clashes.specs.Chosen.{written, meets, swaps, happens, overPairs, atStep, candidates, orClear, chosen}
 use Rattle.clashes.specs.declared.Clash.the-variants.{Clear, Meeting, Swap}
