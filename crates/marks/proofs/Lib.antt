@@ -1,3 +1,4 @@
+pub mod Above
 pub mod Crossings
 pub mod Digits
 pub mod FiveDigits

@@ -99,6 +99,22 @@ module _ (width height : ℕ) where
       (record { there = move-more b bars t v r ∙ (rw f); elsewhere = λ m k n. move-more b bars t v m ∙ (rw (g m k n)) })))
       ∙ ap (λ x. withDigit x r) (sym (mark-from bars t v))
 
+  -- ---- bars that forbid alike, as the same bars in another order
+
+  move-alike : (some others : List Bar) (t v m : ℕ) → ((p : Bar → Bool) → anyOf p some ≡ anyOf p others) → barsMove width height some t v m ≡ barsMove width height others t v m
+  unfolding barsMove landing
+  move-alike some others t v m e =
+      let g = onGrid width height (rowAfter (v / width) m) (colAfter (v % width) m) in
+      let w = cellAt width (rowAfter (v / width) m) (colAfter (v % width) m) in
+      rw (any-only (λ w. anyOf (barsWay t v w) some) g w, any-only (λ w. anyOf (barsWay t v w) others) g w, e (barsWay t v w))
+
+  pub mark-alike : (some others : List Bar) (t v : ℕ) → ((p : Bar → Bool) → anyOf p some ≡ anyOf p others) → markOf width height some t v ≡ markOf width height others t v
+  mark-alike some others t v e =
+      mark-from some t v
+      ∙ (rw (e (barsCell t v)) (mark-kept (anyOf (barsCell t v) others) (barsMove width height others t v) (barsMove width height some t v)
+      (λ m h. move-alike some others t v m e)))
+      ∙ sym (mark-from others t v)
+
   -- ---- the three kinds of bar
 
   no-way : (b : Bar) (t v m : ℕ) → ((w : ℕ) → barsWay t v w b ≡ false) → forbidsMove b t v m ≡ false

@@ -1,22 +1,33 @@
--- Marking by parts: nothing marked at first, some bars more by each marker, and at the end all of a chain, its own bars in front of
--- its parent's. Assumes nothing.
+-- Marking by parts: nothing marked at first, some bars more by each marker in whatever order, and at the end all of a chain: its own
+-- bars, then those of the next ancestor that has any, up to the root. Assumes nothing.
 use Prim.Native.Nat.{ℕ, _+_, _*_}
-use native.Mathlib.Omega.{arith}
-use mathlib.Core.Path.{_≡_, sym, ap, subst, _∙_}
+use mathlib.Core.Path.{_≡_, refl, sym, ap, subst, _∙_}
+use mathlib.Core.Bool.{Bool, true, false, _||_}
 use mathlib.Core.List.{List, [], _∷_, _++_, append-assoc, append-nil}
 use lib.ListN.{length, getD}
-use Rattle.lists.specs.Lists.{only}
+use Rattle.lists.specs.Lists.{anyOf, only}
+use Rattle.lists.proofs.Passing.{any-append}
 use Rattle.lent.specs.Lent.{zeroed, SameFrom}
 use Rattle.lent.proofs.Keeping.{same-from, same-then, zeroed-kept, zeroed-zero}
 use Rattle.routes.specs.Bars.{barsFor}
 use Rattle.routes.specs.declared.Bar.{Bar}
 use Rattle.routes.specs.declared.Bar.the-variants.{Free, Stay, Cross}
-use Rattle.records.specs.Columns.{entry, parentAt, barAt, isBar, ownBars, chainOf, Falls}
-use Rattle.records.proofs.Own.{own-binds, other-binds-not, chain-binds, root-binds}
+use Rattle.records.specs.Columns.{entry, barAt, isBar, ownBars, chainOf}
+use Rattle.records.proofs.Own.{own-binds, other-binds-not, root-binds}
 use Rattle.marks.specs.Marks.{Marked, boundBy}
-use Rattle.marks.specs.Post.{Layered, MarkedMore, MarkedAll}
-use Rattle.marks.proofs.Marking.{mark-none, mark-free}
+use Rattle.marks.specs.Post.{Layered, MarkedMore, MarkedAll, BoundAbove}
+use Rattle.marks.proofs.Marking.{mark-none, mark-free, mark-alike}
 use Rattle.marks.proofs.Places.{bounds}
+
+or-turned : (a b : Bool) → (a || b) ≡ (b || a)
+or-turned true true = refl
+or-turned true false = refl
+or-turned false true = refl
+or-turned false false = refl
+
+any-turned : (p : Bar → Bool) (xs ys zs : List Bar) → anyOf p ((xs ++ ys) ++ zs) ≡ anyOf p ((ys ++ xs) ++ zs)
+any-turned p xs ys zs =
+    rw (any-append p (xs ++ ys) zs, any-append p xs ys, any-append p (ys ++ xs) zs, any-append p ys xs, or-turned (anyOf p xs) (anyOf p ys))
 
 module _ (width height h : ℕ) where
   -- the layers after a marker serve the next as they did it
@@ -71,6 +82,21 @@ module _ (width height h : ℕ) where
   bar-or-none (Stay v a b) xs ys f = f
   bar-or-none (Cross u v t) xs ys f = f
 
+  -- in any order
+  more-turned : (first second : List Bar) (xs ys : List ℕ) → MarkedMore width height h (first ++ second) xs ys → MarkedMore width height h (second ++ first) xs ys
+  more-turned first second xs ys f =
+      record {
+        marked = λ bars m. record { marks = λ t v l i. f .marked bars m .marks t v l i ∙ mark-alike width height ((first ++ second) ++ bars) ((second ++ first) ++ bars) t v (λ p. any-turned p first second bars) };
+        kept = f .kept;
+      }
+
+  -- once the rest is marked, all are
+  pub record Left (all some : List Bar) (before now : List ℕ) : Type 0 where
+    pub rest : (after : List ℕ) → MarkedMore width height h some now after → MarkedMore width height h all before after
+
+  pub all-left : (all : List Bar) (xs : List ℕ) → Left all all xs xs
+  all-left all xs = record { rest = λ ys m. m }
+
   -- ---- a chain
 
   module _ (capacity : ℕ) (columns : List ℕ) (x carrier : ℕ) where
@@ -80,13 +106,20 @@ module _ (width height h : ℕ) where
     pub own-marked : (b : Bar) (xs ys : List ℕ) → entry capacity columns 2 x ≡ carrier → b ≡ barAt capacity columns x → MarkedMore width height h (b ∷ []) xs ys → MarkedMore width height h (barsFor carrier (ownBars capacity columns x)) xs ys
     own-marked b xs ys e f g = rw (own-binds capacity columns x carrier e, ← f) (bar-or-none b xs ys g)
 
-    pub root-marked : (xs ys : List ℕ) → x ≡ 0 → MarkedMore width height h (barsFor carrier (ownBars capacity columns x)) xs ys → MarkedMore width height h (barsFor carrier (chainOf capacity columns x)) xs ys
-    root-marked xs ys e f = rw (root-binds capacity columns x carrier e) f
+    -- ---- what is left to mark
 
-    pub chain-marked : (p : ℕ) (xs ys zs : List ℕ) → Falls capacity columns x → (x ≡ 0 → ⊥) → p ≡ parentAt capacity columns x → MarkedMore width height h (barsFor carrier (chainOf capacity columns p)) xs ys → MarkedMore width height h (barsFor carrier (ownBars capacity columns x)) ys zs → MarkedMore width height h (barsFor carrier (chainOf capacity columns x)) xs zs
-    chain-marked p xs ys zs d n e f g =
-        rw (chain-binds capacity columns x carrier (d .down x (omega (arith, n)) (omega arith)), ← e)
-        (more-then (barsFor carrier (chainOf capacity columns p)) (barsFor carrier (ownBars capacity columns x)) xs ys zs f g)
+    pub own-then : (all : List Bar) (above : ℕ) (xs ys zs : List ℕ) → Left all (barsFor carrier (chainOf capacity columns x)) xs ys → MarkedMore width height h (barsFor carrier (ownBars capacity columns x)) ys zs → BoundAbove capacity columns x carrier above → Left all (barsFor carrier (chainOf capacity columns above)) xs zs
+    own-then all above xs ys zs f g b =
+        record {
+          rest = λ ws m.
+              f .rest ws
+              (rw (b .goes-on)
+              (more-turned (barsFor carrier (chainOf capacity columns above)) (barsFor carrier (ownBars capacity columns x)) ys ws
+              (more-then (barsFor carrier (ownBars capacity columns x)) (barsFor carrier (chainOf capacity columns above)) ys zs ws g m)));
+        }
+
+    pub root-last : (all : List Bar) (xs ys zs : List ℕ) → Left all (barsFor carrier (chainOf capacity columns x)) xs ys → x ≡ 0 → MarkedMore width height h (barsFor carrier (ownBars capacity columns x)) ys zs → MarkedMore width height h all xs zs
+    root-last all xs ys zs f e g = f .rest zs (rw (root-binds capacity columns x carrier e) g)
 
     -- ---- all bars
 

@@ -8,7 +8,9 @@ use lib.ListN.{length}
 use Rattle.lists.specs.Lists.{anyOf}
 use Rattle.lent.specs.Lent.{SameFrom}
 use Rattle.hall.specs.Moves.{landing, moveCount}
+use Rattle.routes.specs.Bars.{barsFor}
 use Rattle.routes.specs.declared.Bar.{Bar}
+use Rattle.records.specs.Columns.{ownBars, chainOf}
 use Rattle.marks.specs.Marks.{Marked}
 
 -- layers with a byte for each step up to h and each cell of a hall
@@ -26,6 +28,11 @@ pub record MarkedMore (width height h : ℕ) (more : List Bar) (before after : L
 pub record MarkedAll (width height h : ℕ) (bars : List Bar) (before after : List ℕ) : Type 0 where
   pub marked : Marked width height bars h after
   pub kept : SameFrom ((h + 1) * (width * height)) before after
+
+-- an ancestor from which the bars that bind a carrier go on: no record between it and x has one
+pub record BoundAbove (capacity : ℕ) (columns : List ℕ) (x carrier above : ℕ) : Type 0 where
+  pub less : above < x
+  pub goes-on : barsFor carrier (chainOf capacity columns x) ≡ barsFor carrier (ownBars capacity columns x) ++ barsFor carrier (chainOf capacity columns above)
 
 -- does move m lead from one cell to another?
 abbrev pub leads : ℕ → ℕ → ℕ → ℕ → ℕ → Bool

@@ -8,7 +8,7 @@ ghost use Rattle.routes.specs.Bars.{barsFor};
 ghost use Rattle.routes.specs.declared.Bar.the-variants.{Stay, Cross};
 ghost use Rattle.records.specs.Columns.{ownBars, chainOf, Falls};
 ghost use Rattle.marks.specs.Marks.{boundBy};
-ghost use Rattle.marks.specs.Post.{Layered, MarkedMore, MarkedAll, MoveTo, withDigit};
+ghost use Rattle.marks.specs.Post.{Layered, MarkedMore, MarkedAll, BoundAbove, MoveTo, withDigit};
 
 // The mark of a cell that is barred at a step.
 pub const BARRED: u8 = 255;
@@ -145,8 +145,24 @@ fn mark_own(
     mark_bar(layers, width, height, h, bar);
 }
 
-// 'A bar binds a node if it stands in that node's record or in the record of one of its ancestors': the parent's bars
-// first, then its own.
+// 'or in the record of one of its ancestors': the nearest ancestor whose bar is for the carrier, or the root. The layers
+// are not handed up, nor what only marking asks for, so that a level takes 32 bytes of stack.
+fn bound_above(columns: &[u16], capacity: usize, node: usize, carrier: usize) -> usize
+    requires { ⌜ Falls capacity (now columns) node × (0 < node) ⌝ }
+    ensures { λ r. ⌜ BoundAbove capacity (now (columns .entry)) node carrier r ⌝ }
+{
+    let parent = records::entry_at(columns, capacity, records::PARENT, node);
+    if parent == 0 {
+        return parent;
+    }
+    if records::entry_at(columns, capacity, records::CARRIER, parent) == carrier {
+        return parent;
+    }
+    bound_above(columns, capacity, parent, carrier)
+}
+
+// 'A bar binds a node if it stands in that node's record', or above it: each record that has one for the carrier is
+// marked, up to the root's.
 fn mark_up(
     layers: &mut [u8],
     width: usize,
@@ -160,13 +176,12 @@ fn mark_up(
     requires { ⌜ Layered width height h (now layers) × Falls capacity (now columns) node ⌝ }
     ensures { λ r. ⌜ MarkedMore width height h (barsFor carrier (chainOf capacity (now (columns .entry)) node)) (now (layers .entry)) (now (layers .exit)) ⌝ }
 {
-    if node == 0 {
-        mark_own(layers, width, height, h, columns, capacity, node, carrier);
-        return;
+    let mut at = node;
+    while at != 0 {
+        mark_own(layers, width, height, h, columns, capacity, at, carrier);
+        at = bound_above(columns, capacity, at, carrier);
     }
-    let parent = records::entry_at(columns, capacity, records::PARENT, node);
-    mark_up(layers, width, height, h, columns, capacity, parent, carrier);
-    mark_own(layers, width, height, h, columns, capacity, node, carrier);
+    mark_own(layers, width, height, h, columns, capacity, at, carrier);
 }
 
 // All bars that bind a carrier at a node, and one new bar.

@@ -1,0 +1,28 @@
+-- The bars that bind a carrier go on at a node's parent; where the parent's own is for another carrier, they go on where they go on
+-- above the parent. Assumes nothing.
+use Prim.Native.Nat.{ℕ, _<_}
+use native.Mathlib.Omega.{arith}
+use mathlib.Core.Path.{_≡_, ap, _∙_}
+use mathlib.Core.List.{List, _++_}
+use Rattle.routes.specs.Bars.{barsFor}
+use Rattle.records.specs.Columns.{entry, parentAt, ownBars, Falls}
+use Rattle.records.proofs.Own.{other-binds-not, chain-binds}
+use Rattle.marks.specs.Post.{BoundAbove}
+
+module _ (capacity : ℕ) (columns : List ℕ) (x : ℕ) where
+  -- the numbers fall above an ancestor too
+  pub falls-above : (above : ℕ) → above < x → Falls capacity columns x → Falls capacity columns above
+  falls-above above l d = record { room = d .room; small = d .small; inside = omega (arith, d .inside); down = λ y k m. d .down y k (omega arith) }
+
+  module _ (carrier p : ℕ) where
+    pub parent-bound : Falls capacity columns x → 0 < x → p ≡ parentAt capacity columns x → BoundAbove capacity columns x carrier p
+    parent-bound d n e =
+        let l : parentAt capacity columns x < x = d .down x n (omega arith) in
+        rw e (record { less = l; goes-on = chain-binds capacity columns x carrier l })
+
+    pub passed-bound : (above : ℕ) → BoundAbove capacity columns x carrier p → (entry capacity columns 2 p ≡ carrier → ⊥) → BoundAbove capacity columns p carrier above → BoundAbove capacity columns x carrier above
+    passed-bound above b n c =
+        record {
+          less = omega (arith, b .less, c .less);
+          goes-on = b .goes-on ∙ ap (λ l. barsFor carrier (ownBars capacity columns x) ++ l) (c .goes-on ∙ (rw (other-binds-not capacity columns p carrier n)));
+        }
