@@ -1,5 +1,5 @@
--- What the archive asked, sentence by sentence, and beside each the formal line. Statements only: [name] is the law in
--- proofs/Kept.antt that proves the line below it.
+-- What the archive asked, sentence by sentence, and beside each the formal line. Statements only: [name] is the law that proves the line
+-- below it, in proofs/Kept.antt, and of the two checks in proofs/Checks.antt.
 --
 -- Each line speaks of any planner and of any two checks. `gives job n before told after` says that the planner, called with this job,
 -- N = n and the lent tables `before`, may tell `told` and leave the tables `after`; `routes job plan fault` and `meetings job plan fault`
