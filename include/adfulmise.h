@@ -6,7 +6,12 @@
  * pointer leads to that many elements (any pointer that is not null for a length of 0), which nothing else changes during the
  * call, and pieces that are written overlap no other piece. The library is proved for every input that keeps this.
  *
- * Build it with `rt staticlib adfulmise`, which writes target/staticlib/libadfulmise.a.
+ * A call takes no memory but what is lent and the stack that it is made on. Of that it needs, below the stack pointer of its
+ * caller, at most ADFULMISE_PLAN_STACK(n) bytes for adfulmise_plan and ADFULMISE_OTHER_STACK bytes for each of the others; what the
+ * thread itself or a signal handler takes comes on top. Nothing looks whether the stack suffices.
+ *
+ * Build it with `rt staticlib adfulmise`, which writes target/staticlib/libadfulmise.a. A whole caller in C is
+ * library/examples/plan_job.c.
  * docs/BOOK.md has jobs, books, numbers and tables on one page, with an example.
  *
  * A job, in all three functions that take one:
@@ -42,6 +47,26 @@
 #ifdef __cplusplus
 extern "C" {
 #endif
+
+/* The version of this header and of the archive beside it; as a number, major * 10000 + minor * 100 + patch. */
+#define ADFULMISE_VERSION "0.1.0"
+#define ADFULMISE_VERSION_NUMBER 100
+
+/*
+ * The least length of each lent table in its own entries, for a job that is not refused: n records, m carriers, the horizon h, a hall
+ * of width by height. With constants they are constants, so that a table can be an array.
+ */
+#define ADFULMISE_COLUMNS_LENGTH(n) ((size_t)8 * (size_t)(n))
+#define ADFULMISE_PLANS_LENGTH(n, m, h) ((size_t)(n) * ADFULMISE_OUTPUT_LENGTH(m, h))
+#define ADFULMISE_LAYERS_LENGTH(width, height, h) (((size_t)(h) + 1) * (size_t)(width) * (size_t)(height))
+#define ADFULMISE_OUTPUT_LENGTH(m, h) ((size_t)(m) * ((size_t)(h) + 1))
+
+/*
+ * The stack that a call of adfulmise_plan with n records needs, and that each of the other three needs, in bytes. The planner goes up
+ * the chain of a node's ancestors by recursion, at most n - 1 deep, and takes 32 bytes a level: 52 KB for n = 1024, 24 KB for n = 128.
+ */
+#define ADFULMISE_PLAN_STACK(n) ((size_t)20480 + (size_t)32 * (size_t)(n))
+#define ADFULMISE_OTHER_STACK ((size_t)1024)
 
 /* A carrier: the cell it starts from and the cell it has to reach. Two bytes, no more. */
 typedef struct adfulmise_carrier {

@@ -1,7 +1,29 @@
 //! Adfulmise for Rust: the proved planner for delayed carriers, its two plan checks and the book reader, as safe functions.
 //!
 //! Nothing here computes a plan: each function lends its slices to the static library and hands back what that tells. What the
-//! numbers mean is in `include/adfulmise.h`.
+//! numbers mean is in `include/adfulmise.h`, and so is the stack that a call needs (`ADFULMISE_PLAN_STACK`): 20 KB and 32 bytes for
+//! each record, so 52 KB at most.
+//!
+//! ```
+//! use adfulmise::{Carrier, Job, Tables, check_meetings, check_routes, plan};
+//!
+//! let job = Job {
+//!     hall: b".........",
+//!     width: 3,
+//!     height: 3,
+//!     carriers: &[Carrier { start: 3, goal: 5 }, Carrier { start: 1, goal: 7 }],
+//!     k: 0,
+//!     h: 4,
+//! };
+//! let mut tables = Tables::for_records(128);
+//! let told = plan(&job, 128, &mut tables);
+//! assert_eq!((told.number, told.sum, told.records), (0, 5, 3));
+//!
+//! let found = &tables.output[..job.plan_len()];
+//! assert_eq!(found, [3, 3, 4, 5, 5, 1, 4, 7, 7, 7]);
+//! assert_eq!(check_routes(&job, found).number, 0);
+//! assert_eq!(check_meetings(&job, found).number, 0);
+//! ```
 
 use std::ops::Range;
 
