@@ -1,13 +1,12 @@
 -- Document 01's broken planners and checks: none keeps the promise that document 01 names for it. Each law takes any planner, or any two
 -- checks, and that one line of specs/Promises.antt; nothing is known of how they work. What the line says at a worked job is read off our
 -- own planner, which keeps it (proofs/Kept.antt) and whose answer there is known (`stars-hold`). Assumes nothing.
-use Prim.Native.Nat.{ℕ, _≤_, _<_}
+use Prim.Native.Nat.{ℕ, _<_}
 use native.Mathlib.Omega.{arith}
-use native.Mathlib.Decide.{decLe}
 use mathlib.Core.Path.{_≡_, refl, sym, ap, subst, _∙_}
 use mathlib.Core.Bool.{false}
 use mathlib.Core.List.{List, [], List·Memᴰ}
-use mathlib.Core.Option.{Option, none, some}
+use mathlib.Core.Option.{none}
 use lib.ListN.{getD}
 use Rattle.lists.specs.Lists.{range, sumTo, only, keep, anyOf, firstOf, each, Every, refuseIf}
 use Rattle.lists.proofs.Every.{every-member}
@@ -37,10 +36,11 @@ use Rattle.planner.specs.Stars.{Star, starJob, starTables, Seen, asked, given, 
 use Rattle.planner.proofs.Promises.{planned-promised}
 use Rattle.planner.proofs.Stars.{stars-hold}
 use Rattle.job.proofs.Due.{accepted-exactly, checks-accept-exactly}
-use Rattle.promises.specs.Promises.{Planner, Check, Runs, ZeroIsLeast, EightIsNone, ByNeed, NineByNeed, CheckIsExact}
+use Rattle.promises.specs.Promises.{Planner, Check, Runs, ZeroIsLeast, EightIsNone, NineByNeed, CheckIsExact}
 use Rattle.promises.specs.Ours.{OurPlanner}
 use Rattle.promises.proofs.Kept.{zero-is-least, nine-by-need}
 use Rattle.promises.proofs.Passing.{same-cells, written-passes}
+use Rattle.promises.proofs.Settle.{needs-same}
 
 -- ---- a planner that answers each job, N and tables
 
@@ -108,24 +108,7 @@ second-given = ap (λ (l : List Seen). getD l 1 nothing) stars-hold
 
 -- ---- the tree's need leaves one number and one record count
 
-module _ (job : Job) (n : ℕ) (before : Tables) (need : ℕ) (end : Option Node) (told told′ : Told) (after after′ : Tables)
-    (b : ByNeed job n before need end told after) (b′ : ByNeed job n before need end told′ after′) where
-  ends-same : (o : Option Node) → end ≡ o → need ≤ n → told .number ≡ told′ .number
-  ends-same none e l = b .none-left l e ∙ sym (b′ .none-left l e)
-  ends-same (some node) e l = b .plan l node e .0 ∙ sym (b′ .plan l node e .0)
-
-  needs-same : (told .number ≡ told′ .number) × (told .records ≡ told′ .records)
-  needs-same = go (decLe need n)
-    where
-      go : Dec (need ≤ n) → (told .number ≡ told′ .number) × (told .records ≡ told′ .records)
-      go (yes l) = (ends-same end refl l, b .from l ∙ sym (b′ .from l))
-      go (no l) =
-          let k : n < need = omega (arith, l) in
-          let (x, y) = b .under k in
-          let (x′, y′) = b′ .under k in
-          (x ∙ sym x′, y ∙ sym y′)
-
--- so a planner that keeps the line tells at a worked job what ours tells
+-- a planner that keeps the line tells at a worked job what ours tells
 need-settles : (g : Planner) → NineByNeed g → (s : Star) → RunsAt s → (told : Told) (after : Tables) → g (starJob s) (s .capacity) (starTables s) told after
     → (told .number ≡ given s .told .number) × (told .records ≡ given s .told .records)
 unfolding NineByNeed

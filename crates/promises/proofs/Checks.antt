@@ -10,13 +10,13 @@ use mathlib.Core.Option.{Option, none, some}
 use lib.Dec.{T}
 use lib.ListN.{length}
 use borrow.Author.Tests.{lt-ltb}
-use Rattle.lists.proofs.Tests.{is-true, of-true}
+use Rattle.lists.proofs.Tests.{is-true, is-false, of-true}
 use Rattle.lists.proofs.Every.{every-member}
 use Rattle.lists.proofs.Orders.{Ordered, ordered-rows, LeastFact, first-least}
 use Rattle.lists.proofs.Passing.{FirstFact}
 use Rattle.job.specs.Job.{Job, slipOf, mostSlip, planLength, planCell}
 use Rattle.job.specs.Told.{bare, refusal}
-use Rattle.job.specs.Verdict.{judge, verdictTold, ifAccepted, IsAccepted}
+use Rattle.job.specs.Verdict.{judge, ifAccepted, IsAccepted}
 use Rattle.job.specs.declared.Fault.{Fault}
 use Rattle.job.specs.declared.Verdict.{Verdict}
 use Rattle.job.specs.declared.Verdict.the-variants.{Accepted, WrongGrid, WrongBytes, WrongLimits, WrongCount, WrongEnds, SharedEnds}
@@ -30,7 +30,7 @@ use Rattle.checks.specs.Demand.{LawfulRoutes, Passes}
 use Rattle.checks.proofs.Demand.{wrong, listed, WrongFact, wrong-fact, route-verdict, meeting-verdict, plan-check-exact, zero-is-lawful, zero-is-safe}
 use Rattle.checks.proofs.Near.{plan-check-exact-near}
 use Rattle.checks.proofs.Read.{route-reads-the-plan, meeting-reads-the-plan}
-use Rattle.promises.specs.Promises.{CheckIsExact, CheckIsExactNear, PassIsSafe, ChecksRefuseFirst, ShortPlanIsSeven, PlanIsRead, FirstWrong, FirstWrongTold, ChosenTold}
+use Rattle.promises.specs.Promises.{CheckIsExact, CheckIsExactNear, PassIsSafe, ChecksRefuseFirst, ShortPlanIsSeven, PlanIsRead, FirstWrong, NoneWrong, FirstWrongTold, ChosenTold}
 use Rattle.promises.specs.Ours.{OurRoutes, OurMeetings}
 
 pub refused : {A : Type 0} (v : Verdict) (go stop : A) → (v ≡ Accepted → ⊥) → ifAccepted v go stop ≡ stop
@@ -81,7 +81,6 @@ pub checks-refuse-first : ChecksRefuseFirst OurRoutes OurMeetings
 unfolding ChecksRefuseFirst routeVerdict meetingVerdict
 checks-refuse-first job plan r m routes meetings not-right =
     let wrong : judge job ≡ Accepted → ⊥ = λ e. not-right (exactly job .0 e) in (
-      verdictTold (judge job),
       check-due job,
       routes ∙ ap routeTold (refused (judge job) (planVerdict job plan) (RouteRefused (judge job)) wrong),
       meetings ∙ ap meetingTold (refused (judge job) (compared job plan) (MeetingRefused (judge job)) wrong),
@@ -123,14 +122,16 @@ places-ordered m h = ordered-rows NotAfter place (λ i. 0) (λ i. h + 1) (λ i t
 
 module _ (job : Job) (plan : List ℕ) (accepted : IsAccepted job) (long : planLength job ≤ length plan) where
   abbrev Found : Option Place → Type 0
-  Found o = (LawfulRoutes job plan × (routeTold (placeVerdict o) ≡ refusal (bare 0))) ⊎ ((i t : ℕ) × FirstWrong job plan i t × (routeTold (placeVerdict o) ≡ routeTold (Wrong i t)))
+  Found o = (LawfulRoutes job plan × NoneWrong job plan × (routeTold (placeVerdict o) ≡ refusal (bare 0))) ⊎ ((i t : ℕ) × FirstWrong job plan i t × (routeTold (placeVerdict o) ≡ routeTold (Wrong i t)))
 
   found : (o : Option Place) → o ≡ firstWrongPlace job (planCell job plan) → WrongFact job (planCell job plan) o
       → LeastFact (wrong job (planCell job plan)) NotAfter (places (job .count) (job .horizon)) o → Found o
-  unfolding FirstFact LeastFact placeVerdict
+  unfolding FirstFact LeastFact placeVerdict NoneWrong
   found none e fact least =
       let zero : routeTold (routeVerdict job plan) .number ≡ 0 = ap (λ v. routeTold v .number) (route-verdict job plan accepted long ∙ ap placeVerdict (sym e)) in
-      inl (zero-is-lawful job plan zero .1, refl)
+      let right : NoneWrong job plan =
+      λ i t li lt. is-false (every-member (λ p. T (wrong job (planCell job plan) p) → ⊥) (places (job .count) (job .horizon)) fact (listed job (planCell job plan) i t li lt)) in
+      inl (zero-is-lawful job plan zero .1, right, refl)
   found (some p) e fact least =
       inr (
         p .carrier,

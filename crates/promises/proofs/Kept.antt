@@ -118,9 +118,9 @@ short-is-seven job n before told after p right capacity short =
 
 left-by : (job : Job) (n : ℕ) (before : Tables) (o : Outcome Node) → Left job n before (answerTold (searched job n before o .answer)) (searched job n before o .tables)
 unfolding searched withPlan workedOn
-left-by job n before (done (some x) k) = record { number = inl refl; columns = refl; plans = refl; layers = refl; output = inl refl }
-left-by job n before (done none k) = record { number = inr (inl refl); columns = refl; plans = refl; layers = refl; output = inr refl }
-left-by job n before (full k) = record { number = inr (inr refl); columns = refl; plans = refl; layers = refl; output = inr refl }
+left-by job n before (done (some x) k) = record { number = inl refl; untold = (refl, refl, inl refl); columns = refl; plans = refl; layers = refl; output = inl refl }
+left-by job n before (done none k) = record { number = inr (inl refl); untold = (refl, refl, inr refl); columns = refl; plans = refl; layers = refl; output = inr refl }
+left-by job n before (full k) = record { number = inr (inr refl); untold = (refl, refl, inr refl); columns = refl; plans = refl; layers = refl; output = inr refl }
 
 pub tables-left : TablesLeft OurPlanner
 unfolding TablesLeft

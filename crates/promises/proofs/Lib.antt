@@ -4,3 +4,4 @@ pub mod Kept
 pub mod Library
 pub mod Numbers
 pub mod Passing
+pub mod Settle

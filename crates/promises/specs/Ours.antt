@@ -16,7 +16,7 @@ use Rattle.planner.specs.Post.{Planned}
 use Rattle.planner.specs.declared.Answer.{Answer}
 use Rattle.adfulmise.specs.Lent.{written, toldValues, faultValues}
 use Rattle.adfulmise.specs.Post.{Answered, Checked}
-use Rattle.promises.specs.Promises.{Check}
+use Rattle.promises.specs.Promises.{Planner, Check, RefusesFirst, ShortIsSeven, TablesLeft, ZeroIsLeast, NineByNeed, ChecksRefuseFirst, ShortPlanIsSeven, FirstWrongTold, ChosenTold}
 
 pub record OurPlanner (job : Job) (n : ℕ) (before : Tables) (told : Told) (after : Tables) : Type 0 where
   pub answer : Answer
@@ -42,3 +42,18 @@ LibraryChecksAreOurs =
     (job : Job) (plan lent : List ℕ) (r : ℕ) (given : List ℕ)
     → (Checked (routeTold (routeVerdict job plan)) lent r given → (fault : Fault) × OurRoutes job plan fault × (r ≡ fault .number) × (given ≡ written (faultValues fault) lent))
     × (Checked (meetingTold (meetingVerdict job plan)) lent r given → (fault : Fault) × OurMeetings job plan fault × (r ≡ fault .number) × (given ≡ written (faultValues fault) lent))
+
+-- [lines-settle] And the lines leave no choice: whatever planner keeps these five tells what ours tells and leaves what ours leaves, for
+-- every job, every N and all tables. So none of document 01's broken planners keeps them, nor any other
+unfoldable pub LinesSettle : Type 1
+LinesSettle =
+    (gives : Planner) → RefusesFirst gives → ShortIsSeven gives → TablesLeft gives → ZeroIsLeast gives → NineByNeed gives
+    → (job : Job) (n : ℕ) (before : Tables) (told told′ : Told) (after after′ : Tables) → gives job n before told after → OurPlanner job n before told′ after′
+    → (told ≡ told′) × (after ≡ after′)
+
+-- [check-lines-settle] and whatever two checks keep these four tell what ours tell
+unfoldable pub CheckLinesSettle : Type 1
+CheckLinesSettle =
+    (routes meetings : Check) → ChecksRefuseFirst routes meetings → ShortPlanIsSeven routes meetings → FirstWrongTold routes → ChosenTold meetings
+    → (job : Job) (plan : List ℕ) (r r′ m m′ : Fault) → routes job plan r → meetings job plan m → OurRoutes job plan r′ → OurMeetings job plan m′
+    → (r ≡ r′) × (m ≡ m′)

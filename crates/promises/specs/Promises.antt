@@ -4,9 +4,10 @@
 -- Each line speaks of any planner and of any two checks. `gives job n before told after` says that the planner, called with this job,
 -- N = n and the lent tables `before`, may tell `told` and leave the tables `after`; `routes job plan fault` and `meetings job plan fault`
 -- that the route check or the meeting check, called with this job and the bytes of a plan, may tell `fault`. So a line says by itself
--- what it promises, and proofs/Broken.antt shows that no broken planner keeps them. Ours (specs/Ours.antt) are what the contracts of
--- `entry::plan`, `entry::check_routes` and `entry::check_meetings` say and nothing more. None of the three has a `requires`, and each
--- ends: the prover takes no loop and no recursion without a measure that falls.
+-- what it promises: proofs/Broken.antt refutes each broken planner or check by one of them, and together they leave no choice
+-- (`LinesSettle`, specs/Ours.antt). Ours (there too) are what the contracts of `entry::plan`, `entry::check_routes` and
+-- `entry::check_meetings` say and nothing more. None of the three has a `requires`, and each ends: the prover takes no loop and no
+-- recursion without a measure that falls.
 --
 -- Words used: a job that is right (`RightJob`, in plain numbers), `Lawful` routes and their `cost`, `Apart` (no meeting, no swap),
 -- patterns of holds (`Survives`), the lent `Tables`, and the tree's `NeedIs`: crates job, routes, clashes, tree, tables, in specs/.
@@ -15,7 +16,7 @@ use mathlib.Core.Path.{_≡_}
 use mathlib.Core.List.{List, _++_}
 use mathlib.Core.Logic.{_⊎_, _↔_}
 use mathlib.Core.Option.{Option, none, some}
-use mathlib.Core.Bool.{true}
+use mathlib.Core.Bool.{true, false}
 use lib.ListN.{length, take}
 use Rattle.lists.specs.Lists.{range, each}
 use Rattle.lent.specs.Lent.{zeroed}
@@ -85,9 +86,10 @@ ShortIsSeven gives =
     → (LongTables job n before → ⊥) → (told ≡ bare 7) × (after ≡ before)
 
 -- [tables-left] otherwise 0, 8 or 9: 'the named least lengths of the first three tables are all zero and the rest unchanged. Output
--- changes only for 0'
+-- changes only for 0'. 'Untold numbers are 0': the carriers, and the sum but for 0
 pub record Left (job : Job) (n : ℕ) (before : Tables) (told : Told) (after : Tables) : Type 0 where
   pub number : (told .number ≡ 0) ⊎ ((told .number ≡ 8) ⊎ (told .number ≡ 9))
+  pub untold : (told .carrier ≡ 0) × (told .other ≡ 0) × ((told .number ≡ 0) ⊎ (told .sum ≡ 0))
   pub columns : after .columns ≡ zeroed (columnsLength n) (before .columns)
   pub plans : after .plans ≡ zeroed (plansLength job n) (before .plans)
   pub layers : after .layers ≡ zeroed (layersLength job) (before .layers)
@@ -189,11 +191,11 @@ OutputPasses gives routes meetings =
 -- ---- Document 01, of the two checks: 'Both begin with checks 1 to 6 (no N there), then 7 if the plan is shorter than m × (H + 1); bytes
 -- ---- after that length are not read.'
 
--- [checks-refuse-first]
+-- [checks-refuse-first] the number of 1 to 6 that is due, in document 01's words and by the definition that gives it
 unfoldable pub ChecksRefuseFirst : Check → Check → Type 0
 ChecksRefuseFirst routes meetings =
     (job : Job) (plan : List ℕ) (r m : Fault) → routes job plan r → meetings job plan m → (RightJob job → ⊥)
-    → (told : Told) × Due job (Unit {0}) told × (r ≡ refusal told) × (m ≡ refusal told)
+    → Due job (Unit {0}) (verdictTold (judge job)) × (r ≡ refusal (verdictTold (judge job))) × (m ≡ refusal (verdictTold (judge job)))
 
 -- [short-plan-is-seven]
 unfoldable pub ShortPlanIsSeven : Check → Check → Type 0
@@ -215,10 +217,13 @@ pub record FirstWrong (job : Job) (plan : List ℕ) (i t : ℕ) : Type 0 where
   pub wrong : wrongAt job i (planCell job plan i) t ≡ true
   pub first : (j s : ℕ) → j < job .count → s ≤ job .horizon → wrongAt job j (planCell job plan j) s ≡ true → (i ≤ j) × (i ≡ j → t ≤ s)
 
+unfoldable pub NoneWrong : Job → List ℕ → Type 0
+NoneWrong job plan = (i t : ℕ) → i < job .count → t ≤ job .horizon → wrongAt job i (planCell job plan i) t ≡ false
+
 unfoldable pub FirstWrongTold : Check → Type 0
 FirstWrongTold routes =
     (job : Job) (plan : List ℕ) (r : Fault) → routes job plan r → RightJob job → planLength job ≤ length plan
-    → (LawfulRoutes job plan × (r ≡ refusal (bare 0))) ⊎ ((i t : ℕ) × FirstWrong job plan i t × (r ≡ routeTold (Wrong i t)))
+    → (LawfulRoutes job plan × NoneWrong job plan × (r ≡ refusal (bare 0))) ⊎ ((i t : ℕ) × FirstWrong job plan i t × (r ≡ routeTold (Wrong i t)))
 
 -- [chosen-told] 'The meeting check compares any bytes as cells ... and says 0, or 22 with the meeting or swap chosen by rule 5 and which of
 -- the two it is.'
