@@ -34,6 +34,7 @@ use Rattle.clashes.specs.declared.MeetingVerdict.the-variants.{Compared}
 use Rattle.clashes.proofs.Chosen.{clear-apart, apart-clear}
 use Rattle.clashes.proofs.Holds.{apart-survives, survives-apart}
 use Rattle.checks.specs.Demand.{LawfulRoutes, Passes, Safe}
+use Rattle.checks.specs.First.{NoneWrong}
 
 -- ---- whether a place is wrong depends on the cells at step 0, the step before and the step
 
@@ -107,15 +108,12 @@ module _ (job : Job) (cell : ℕ → ℕ → ℕ) where
       first-fact wrong (λ p. (p .carrier < job .count) × (p .step ≤ job .horizon)) (places (job .count) (job .horizon))
       (member-every (λ p. (p .carrier < job .count) × (p .step ≤ job .horizon)) (places (job .count) (job .horizon)) placed)
 
-  unfoldable NoneWrong : Type 0
-  NoneWrong = (i t : ℕ) → i < job .count → t ≤ job .horizon → wrongAt job i (cell i) t ≡ false
-
-  says-none : (o : Option Place) → WrongFact o → routeTold (placeVerdict o) .number ≡ 0 → NoneWrong
+  says-none : (o : Option Place) → WrongFact o → routeTold (placeVerdict o) .number ≡ 0 → NoneWrong job cell
   unfolding FirstFact placeVerdict NoneWrong
   says-none none fact e = λ i t li lt. is-false (every-member (λ p. T (wrong p) → ⊥) (places (job .count) (job .horizon)) fact (listed i t li lt))
   says-none (some p) fact e = absurd (let z : _≡_ {A = ℕ} 21 0 = e in omega arith)
 
-  none-says : (o : Option Place) → WrongFact o → NoneWrong → placeVerdict o ≡ LawfulPlan
+  none-says : (o : Option Place) → WrongFact o → NoneWrong job cell → placeVerdict o ≡ LawfulPlan
   unfolding FirstFact placeVerdict NoneWrong
   none-says none fact n = refl
   none-says (some p) fact n = let (li, lt) = fact .1 in absurd (of-false (n (p .carrier) (p .step) li lt) (fact .0))

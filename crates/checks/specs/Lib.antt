@@ -1,2 +1,3 @@
 pub mod Demand
+pub mod First
 pub mod Walk

@@ -3,6 +3,7 @@ use Prim.Native.Nat.{ℕ, _+_, _*_, _/_, _%_, _^_, _≤_, _<_}
 use mathlib.Core.Path.{_≡_}
 use mathlib.Core.Bool.{Bool, true, false}
 use mathlib.Core.List.{List, _++_}
+use mathlib.Core.Logic.{_⊎_}
 use lib.Dec.{eqb}
 use lib.ListN.{length}
 use Rattle.lists.specs.Lists.{anyOf}
@@ -10,7 +11,7 @@ use Rattle.lent.specs.Lent.{SameFrom}
 use Rattle.hall.specs.Moves.{landing, moveCount}
 use Rattle.routes.specs.Bars.{barsFor}
 use Rattle.routes.specs.declared.Bar.{Bar}
-use Rattle.records.specs.Columns.{ownBars, chainOf}
+use Rattle.records.specs.Columns.{entry, ownBars, chainOf}
 use Rattle.marks.specs.Marks.{Marked}
 
 -- layers with a byte for each step up to h and each cell of a hall
@@ -29,10 +30,11 @@ pub record MarkedAll (width height h : ℕ) (bars : List Bar) (before after : Li
   pub marked : Marked width height bars h after
   pub kept : SameFrom ((h + 1) * (width * height)) before after
 
--- an ancestor from which the bars that bind a carrier go on: no record between it and x has one
+-- the ancestor from which the bars that bind a carrier go on: no record between it and x has one, and it has, or is the root
 pub record BoundAbove (capacity : ℕ) (columns : List ℕ) (x carrier above : ℕ) : Type 0 where
   pub less : above < x
   pub goes-on : barsFor carrier (chainOf capacity columns x) ≡ barsFor carrier (ownBars capacity columns x) ++ barsFor carrier (chainOf capacity columns above)
+  pub stops : (above ≡ 0) ⊎ (entry capacity columns 2 above ≡ carrier)
 
 -- does move m lead from one cell to another?
 abbrev pub leads : ℕ → ℕ → ℕ → ℕ → ℕ → Bool

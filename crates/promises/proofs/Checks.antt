@@ -27,10 +27,11 @@ use Rattle.clashes.specs.Check.{planClash, compared, meetingVerdict, meetingTol
 use Rattle.clashes.specs.declared.MeetingVerdict.the-variants.{Refused as MeetingRefused, Short as MeetingShort}
 use Rattle.clashes.proofs.First.{chosen-right}
 use Rattle.checks.specs.Demand.{LawfulRoutes, Passes}
+use Rattle.checks.specs.First.{NoneWrong, FirstWrongPlace}
 use Rattle.checks.proofs.Demand.{wrong, listed, WrongFact, wrong-fact, route-verdict, meeting-verdict, plan-check-exact, zero-is-lawful, zero-is-safe}
 use Rattle.checks.proofs.Near.{plan-check-exact-near}
 use Rattle.checks.proofs.Read.{route-reads-the-plan, meeting-reads-the-plan}
-use Rattle.promises.specs.Promises.{CheckIsExact, CheckIsExactNear, PassIsSafe, ChecksRefuseFirst, ShortPlanIsSeven, PlanIsRead, FirstWrong, NoneWrong, FirstWrongTold, ChosenTold}
+use Rattle.promises.specs.Promises.{CheckIsExact, CheckIsExactNear, PassIsSafe, ChecksRefuseFirst, ShortPlanIsSeven, PlanIsRead, FirstWrongTold, ChosenTold}
 use Rattle.promises.specs.Ours.{OurRoutes, OurMeetings}
 
 pub refused : {A : Type 0} (v : Verdict) (go stop : A) → (v ≡ Accepted → ⊥) → ifAccepted v go stop ≡ stop
@@ -122,14 +123,14 @@ places-ordered m h = ordered-rows NotAfter place (λ i. 0) (λ i. h + 1) (λ i t
 
 module _ (job : Job) (plan : List ℕ) (accepted : IsAccepted job) (long : planLength job ≤ length plan) where
   abbrev Found : Option Place → Type 0
-  Found o = (LawfulRoutes job plan × NoneWrong job plan × (routeTold (placeVerdict o) ≡ refusal (bare 0))) ⊎ ((i t : ℕ) × FirstWrong job plan i t × (routeTold (placeVerdict o) ≡ routeTold (Wrong i t)))
+  Found o = (LawfulRoutes job plan × NoneWrong job (planCell job plan) × (routeTold (placeVerdict o) ≡ refusal (bare 0))) ⊎ ((i t : ℕ) × FirstWrongPlace job (planCell job plan) i t × (routeTold (placeVerdict o) ≡ routeTold (Wrong i t)))
 
   found : (o : Option Place) → o ≡ firstWrongPlace job (planCell job plan) → WrongFact job (planCell job plan) o
       → LeastFact (wrong job (planCell job plan)) NotAfter (places (job .count) (job .horizon)) o → Found o
   unfolding FirstFact LeastFact placeVerdict NoneWrong
   found none e fact least =
       let zero : routeTold (routeVerdict job plan) .number ≡ 0 = ap (λ v. routeTold v .number) (route-verdict job plan accepted long ∙ ap placeVerdict (sym e)) in
-      let right : NoneWrong job plan =
+      let right : NoneWrong job (planCell job plan) =
       λ i t li lt. is-false (every-member (λ p. T (wrong job (planCell job plan) p) → ⊥) (places (job .count) (job .horizon)) fact (listed job (planCell job plan) i t li lt)) in
       inl (zero-is-lawful job plan zero .1, right, refl)
   found (some p) e fact least =

@@ -25,11 +25,12 @@ use Rattle.routes.specs.declared.RouteVerdict.the-variants.{Wrong}
 use Rattle.clashes.specs.Check.{clashTold}
 use Rattle.clashes.proofs.First.{right-choice-unique}
 use Rattle.checks.specs.Demand.{LawfulRoutes}
+use Rattle.checks.specs.First.{NoneWrong, FirstWrongPlace}
 use Rattle.tree.specs.Tree.{Node}
 use Rattle.tree.proofs.Promises.{need-one}
 use Rattle.tables.specs.Tables.{Tables, shortTable, LongTables}
 use Rattle.tables.proofs.LongTables.{long-exact}
-use Rattle.promises.specs.Promises.{Planner, Check, Runs, RefusesFirst, ShortIsSeven, Left, TablesLeft, ZeroIsLeast, ByNeed, NineByNeed, ChecksRefuseFirst, ShortPlanIsSeven, FirstWrong, NoneWrong, FirstWrongTold, ChosenTold}
+use Rattle.promises.specs.Promises.{Planner, Check, Runs, RefusesFirst, ShortIsSeven, Left, TablesLeft, ZeroIsLeast, ByNeed, NineByNeed, ChecksRefuseFirst, ShortPlanIsSeven, FirstWrongTold, ChosenTold}
 use Rattle.promises.specs.Ours.{OurPlanner, OurRoutes, OurMeetings, LinesSettle, CheckLinesSettle}
 use Rattle.promises.proofs.Checks.{checks-refuse-first, short-plan-is-seven, first-wrong-told, chosen-told}
 use Rattle.promises.proofs.Kept.{refuses-first, short-is-seven, tables-left, zero-is-least, nine-by-need}
@@ -175,7 +176,7 @@ lines-settle gives first short left least need job n before told told′ after a
 -- ---- the checks
 
 -- the first wrong place is one
-first-one : (job : Job) (plan : List ℕ) (i t i′ t′ : ℕ) → FirstWrong job plan i t → FirstWrong job plan i′ t′ → (i ≡ i′) × (t ≡ t′)
+first-one : (job : Job) (plan : List ℕ) (i t i′ t′ : ℕ) → FirstWrongPlace job (planCell job plan) i t → FirstWrongPlace job (planCell job plan) i′ t′ → (i ≡ i′) × (t ≡ t′)
 first-one job plan i t i′ t′ f f′ =
     let (a, b) = f .first i′ t′ (f′ .carrier) (f′ .step) (f′ .wrong) in
     let (a′, b′) = f′ .first i t (f .carrier) (f .step) (f .wrong) in
@@ -184,7 +185,7 @@ first-one job plan i t i′ t′ f f′ =
 
 module _ (job : Job) (plan : List ℕ) where
   abbrev RouteFound : Fault → Type 0
-  RouteFound r = (LawfulRoutes job plan × NoneWrong job plan × (r ≡ refusal (bare 0))) ⊎ ((i t : ℕ) × FirstWrong job plan i t × (r ≡ routeTold (Wrong i t)))
+  RouteFound r = (LawfulRoutes job plan × NoneWrong job (planCell job plan) × (r ≡ refusal (bare 0))) ⊎ ((i t : ℕ) × FirstWrongPlace job (planCell job plan) i t × (r ≡ routeTold (Wrong i t)))
 
   found-one : (r r′ : Fault) → RouteFound r → RouteFound r′ → r ≡ r′
   unfolding NoneWrong

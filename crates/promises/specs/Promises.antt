@@ -16,7 +16,6 @@ use mathlib.Core.Path.{_≡_}
 use mathlib.Core.List.{List, _++_}
 use mathlib.Core.Logic.{_⊎_, _↔_}
 use mathlib.Core.Option.{Option, none, some}
-use mathlib.Core.Bool.{true, false}
 use lib.ListN.{length, take}
 use Rattle.lists.specs.Lists.{range, each}
 use Rattle.lent.specs.Lent.{zeroed}
@@ -27,12 +26,13 @@ use Rattle.job.specs.Verdict.{judgeWith, judge, verdictTold}
 use Rattle.job.specs.declared.Verdict.the-variants.{Accepted}
 use Rattle.job.specs.declared.Told.{Told}
 use Rattle.job.specs.declared.Fault.{Fault}
-use Rattle.routes.specs.Check.{wrongAt, routeTold}
+use Rattle.routes.specs.Check.{routeTold}
 use Rattle.routes.specs.declared.RouteVerdict.the-variants.{Wrong}
 use Rattle.clashes.specs.Check.{clashTold}
 use Rattle.clashes.specs.First.{RightChoice}
 use Rattle.clashes.specs.declared.Clash.{Clash}
 use Rattle.checks.specs.Demand.{LawfulRoutes, Safe, SafeNear}
+use Rattle.checks.specs.First.{NoneWrong, FirstWrongPlace}
 use Rattle.tree.specs.Plan.{Routes, routeOf, IsPlan, IsSafe, Family, total}
 use Rattle.tree.specs.Tree.{Node}
 use Rattle.tree.specs.Promises.{LeastPlan, NeedIs}
@@ -211,19 +211,11 @@ PlanIsRead routes meetings =
 
 -- [first-wrong-told] 'The route check then says 0, or 21 with the first carrier, and its first step, at which the start, a move, a cell or
 -- the goal is wrong'
-pub record FirstWrong (job : Job) (plan : List ℕ) (i t : ℕ) : Type 0 where
-  pub carrier : i < job .count
-  pub step : t ≤ job .horizon
-  pub wrong : wrongAt job i (planCell job plan i) t ≡ true
-  pub first : (j s : ℕ) → j < job .count → s ≤ job .horizon → wrongAt job j (planCell job plan j) s ≡ true → (i ≤ j) × (i ≡ j → t ≤ s)
-
-unfoldable pub NoneWrong : Job → List ℕ → Type 0
-NoneWrong job plan = (i t : ℕ) → i < job .count → t ≤ job .horizon → wrongAt job i (planCell job plan i) t ≡ false
-
 unfoldable pub FirstWrongTold : Check → Type 0
 FirstWrongTold routes =
     (job : Job) (plan : List ℕ) (r : Fault) → routes job plan r → RightJob job → planLength job ≤ length plan
-    → (LawfulRoutes job plan × NoneWrong job plan × (r ≡ refusal (bare 0))) ⊎ ((i t : ℕ) × FirstWrong job plan i t × (r ≡ routeTold (Wrong i t)))
+    → (LawfulRoutes job plan × NoneWrong job (planCell job plan) × (r ≡ refusal (bare 0)))
+    ⊎ ((i t : ℕ) × FirstWrongPlace job (planCell job plan) i t × (r ≡ routeTold (Wrong i t)))
 
 -- [chosen-told] 'The meeting check compares any bytes as cells ... and says 0, or 22 with the meeting or swap chosen by rule 5 and which of
 -- the two it is.'

@@ -1,7 +1,8 @@
 -- `marks::bound_above` meets its contract: the bars above a node go on at its parent, and where the parent's bar is for another carrier,
 -- as they go on above the parent, whose number is smaller. Assumes nothing.
 use native.Mathlib.Omega.{arith}
-use mathlib.Core.Path.{_∙_}
+use mathlib.Core.Path.{sym, _∙_}
+use mathlib.Core.Logic.{inl, inr}
 use Rattle.records.proofs.Chain.{goes-up}
 use Rattle.marks.proofs.Above.{parent-bound, passed-bound}
 use Prim.Native.Nat.{ℕ, _<_}
@@ -45,7 +46,7 @@ bound-above-returns t c =
     let a = c .before .before .before .args in
     let pre = c .before .before .before .pre .1 in
     let entry-at = c .before .entry-at in
-    parent-bound (a .capacity) (a .columns .now) (a .node) (a .carrier) (entry-at .result) (pre .0) (pre .1) (entry-at .ensures)
+    parent-bound (a .capacity) (a .columns .now) (a .node) (a .carrier) (entry-at .result) (pre .0) (pre .1) (entry-at .ensures) (inl (c .if1 .taken))
 
 bound-above-entry-at-requires-2 : (t : ℕ) → bound-above-lts.Need-entry-at-requires-2 (
   entry-at-reads.Asked,
@@ -70,7 +71,7 @@ bound-above-returns-2 t c =
     let a = c .before .before .before .before .before .args in
     let pre = c .before .before .before .before .before .pre .1 in
     let entry-at = c .before .before .before .entry-at in
-    parent-bound (a .capacity) (a .columns .now) (a .node) (a .carrier) (entry-at .result) (pre .0) (pre .1) (entry-at .ensures)
+    parent-bound (a .capacity) (a .columns .now) (a .node) (a .carrier) (entry-at .result) (pre .0) (pre .1) (entry-at .ensures) (inr (sym (c .before .entry-at2 .ensures) ∙ c .if2 .taken))
 
 bound-above-bound-above-requires : (t : ℕ) → bound-above-lts.Need-bound-above-requires (
   entry-at-reads.Asked,
@@ -95,7 +96,7 @@ bound-above-returns-3 t c =
     let a = c .before .before .before .before .before .before .args in
     let pre = c .before .before .before .before .before .before .pre .1 in
     let entry-at = c .before .before .before .before .entry-at in
-    passed-bound (a .capacity) (a .columns .now) (a .node) (a .carrier) (entry-at .result) (c .bound-above .result) (parent-bound (a .capacity) (a .columns .now) (a .node) (a .carrier) (entry-at .result) (pre .0) (pre .1) (entry-at .ensures)) (λ e. c .before .if2 .left (c .before .before .entry-at2 .ensures ∙ e)) (c .bound-above .ensures)
+    passed-bound (a .capacity) (a .columns .now) (a .node) (a .carrier) (entry-at .result) (pre .0) (pre .1) (entry-at .ensures) (c .bound-above .result) (λ e. c .before .if2 .left (c .before .before .entry-at2 .ensures ∙ e)) (c .bound-above .ensures)
 
 pub +bound-above-spec : {M : Type 1} → statement M
 +bound-above-spec = close μ-bound-above λ t. bound-above-lts.spec (
