@@ -23,15 +23,17 @@
  *   k                         how many steps each carrier may be late in all, 0 to 4
  *   h                         the horizon: routes have the steps 0 to h, h from 0 to 63
  *
- * The numbers given back, the lowest that applies:
+ * The numbers given back; where several apply, the one that stands first here:
  *    0  a plan was found; the check passed; the book is good
  *    1  width or height is 0 or above 16
  *    2  the hall has not width * height bytes, or a byte is neither 46 nor 35
  *    3  k above 4, h above 63, or (planner only) n is 0 or above 1024
  *    4  no carrier, or more than 8
  *    5  a start or goal is outside the grid or closed: carrier is the first such
- *    6  two carriers share a start, or share a goal: carrier and other, the smaller number first
- *    7  a lent table (checks: the plan) is too short
+ *    6  two carriers share a start: carrier is the first that does, other the first behind it that has the same start
+ *   16  two carriers share a goal: carrier is the first that does, other the first behind it that has the same goal
+ *    7  a lent table (checks: the plan) is too short: (planner only) table is the first such in the order of the arguments; needed
+ *       is its least length, in its own entries
  *    8  no plan exists: records
  *    9  n records did not suffice: records is n
  *   11 to 15  the reader's, see adfulmise_read
@@ -49,8 +51,8 @@ extern "C" {
 #endif
 
 /* The version of this header and of the archive beside it; as a number, major * 10000 + minor * 100 + patch. */
-#define ADFULMISE_VERSION "0.1.0"
-#define ADFULMISE_VERSION_NUMBER 100
+#define ADFULMISE_VERSION "0.2.0"
+#define ADFULMISE_VERSION_NUMBER 200
 
 /*
  * The least length of each lent table in its own entries, for a job that is not refused: n records, m carriers, the horizon h, a hall
@@ -77,23 +79,34 @@ typedef struct adfulmise_carrier {
 /* The places of what is told. Untold numbers are 0. */
 enum {
     ADFULMISE_NUMBER = 0,
-    /* adfulmise_plan: five numbers */
+    /* adfulmise_plan: seven numbers */
     ADFULMISE_SUM = 1,
     ADFULMISE_RECORDS = 2,
     ADFULMISE_CARRIER = 3,
     ADFULMISE_OTHER = 4,
-    ADFULMISE_TOLD = 5,
-    /* adfulmise_check_routes and adfulmise_check_meetings: six numbers */
+    ADFULMISE_TABLE = 5,
+    ADFULMISE_NEEDED = 6,
+    ADFULMISE_TOLD = 7,
+    /* adfulmise_check_routes and adfulmise_check_meetings: seven numbers */
     ADFULMISE_FAULT_CARRIER = 1,
     ADFULMISE_FAULT_OTHER = 2,
     ADFULMISE_FAULT_STEP = 3,
     ADFULMISE_FAULT_DISTANCE = 4,
     ADFULMISE_FAULT_SWAP = 5,
-    ADFULMISE_FAULT = 6,
+    ADFULMISE_FAULT_NEEDED = 6,
+    ADFULMISE_FAULT = 7,
     /* adfulmise_read: two numbers */
     ADFULMISE_OFFSET = 0,
     ADFULMISE_LENGTH = 1,
     ADFULMISE_PLACE = 2
+};
+
+/* The lent tables as ADFULMISE_TABLE names them, where the number is 7. */
+enum {
+    ADFULMISE_TABLE_COLUMNS = 0,
+    ADFULMISE_TABLE_PLANS = 1,
+    ADFULMISE_TABLE_LAYERS = 2,
+    ADFULMISE_TABLE_OUTPUT = 3
 };
 
 /*
@@ -105,10 +118,10 @@ enum {
  *   layers   at least (h + 1) * width * height bytes
  *   output   at least m * (h + 1) bytes. For 0 its first m * (h + 1) bytes become the plan: carrier by carrier, its cells for
  *            the steps 0 to h. For every other number it is left as it was
- *   told     its first five entries become number, sum, records, carrier, other; with fewer it is left as it was
+ *   told     its first seven entries become number, sum, records, carrier, other, table, needed; with fewer it is left as it was
  *
- * After 1 to 7 the first three tables are as they were. After 0, 8 and 9 the lengths named above are all zero in them. What lies
- * behind a table's named length is never changed.
+ * After 1 to 7 and 16 the first three tables are as they were. After 0, 8 and 9 the lengths named above are all zero in them. What
+ * lies behind a table's named length is never changed.
  * Gives back the number.
  */
 size_t adfulmise_plan(
@@ -123,11 +136,11 @@ size_t adfulmise_plan(
     size_t *told, size_t told_len);
 
 /*
- * Are the routes of a plan lawful? 0, 1 to 7, or 21 with the first carrier, and its first step, at which the start, a move, a cell
- * or the goal is wrong.
+ * Are the routes of a plan lawful? 0, 1 to 7, 16, or 21 with the first carrier, and its first step, at which the start, a move, a
+ * cell or the goal is wrong.
  *
  *   plan  at least m * (h + 1) bytes, as adfulmise_plan writes them; bytes after that length are not read
- *   told  its first six entries become number, carrier, other, step, distance, swap; with fewer it is left as it was
+ *   told  its first seven entries become number, carrier, other, step, distance, swap, needed; with fewer it is left as it was
  *
  * Gives back the number.
  */
@@ -140,8 +153,8 @@ size_t adfulmise_check_routes(
     size_t *told, size_t told_len);
 
 /*
- * Do two carriers of a plan meet? 0, 1 to 7, or 22: carrier at step and other at step + distance are on one cell or, where swap is
- * 1, the two exchange cells between step and step + 1. It compares any bytes as cells. Arguments as in adfulmise_check_routes.
+ * Do two carriers of a plan meet? 0, 1 to 7, 16, or 22: carrier at step and other at step + distance are on one cell or, where swap
+ * is 1, the two exchange cells between step and step + 1. It compares any bytes as cells. Arguments as in adfulmise_check_routes.
  *
  * Gives back the number. A plan that passes both checks is safe under every pattern of at most k delays for each carrier.
  */

@@ -82,9 +82,9 @@ impl PlanTask {
     }
 }
 
-/// The numbers given back: number, sum, records, carrier, other. "Untold
-/// numbers are 0."
-pub type Told = [usize; 5];
+/// The numbers given back: number, sum, records, carrier, other, table, needed.
+/// "Untold numbers are 0."
+pub type Told = [usize; 7];
 
 /// The tables lent to the planner.
 #[derive(Clone, Debug, PartialEq, Eq)]

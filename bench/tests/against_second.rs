@@ -32,7 +32,8 @@ fn task(job: &Job, n: usize) -> PlanTask {
 }
 
 /// What the tables have to hold after an answer: "After 1 to 7 no lent entry
-/// has changed"; after the others the least lengths of the first three are zero.
+/// has changed", nor after 16; after the others the least lengths of the first
+/// three are zero.
 fn left_by(answer: &PlanAnswer, task: &PlanTask, before: &Tables) -> Tables {
     let mut tables = before.clone();
     if [0, 8, 9].contains(&answer.number) {
@@ -83,17 +84,19 @@ fn crowded_jobs_around_their_need() {
 #[test]
 fn refused_jobs() {
     let mut random = Random::new(153);
-    let mut answers = [0; 10];
+    let mut answers = [0; 17];
     for _ in 0..2000 {
         let n = random.pick(&[0, 1, 128, 128, 128, 1024, 1025]);
         answers[usize::from(compare(&damage::refused_job(&mut random), n))] += 1;
     }
+    let refusals = [1, 2, 3, 4, 5, 6, 16];
     assert!(
-        answers[1..=6].iter().all(|&count| count > 50),
+        refusals.iter().all(|&number| answers[number] > 50),
         "{answers:?}"
     );
 }
 
+/// Every choice of tables that lack one entry, from one alone to all four.
 #[test]
 fn short_tables() {
     let job = generate::job(&mut Random::new(154));
@@ -104,11 +107,21 @@ fn short_tables() {
         |tables| tables.layers.truncate(tables.layers.len() - 1),
         |tables| tables.output.truncate(tables.output.len() - 1),
     ];
-    for shorten in shorten {
+    let needed = [
+        task.columns_len(),
+        task.plans_len(),
+        task.layers_len(),
+        task.stretch_len(),
+    ];
+    for short in 1..16_usize {
         let mut tables = Tables::new(&task, 0, 0x5A);
-        shorten(&mut tables);
+        for table in (0..4).filter(|table| short >> table & 1 == 1) {
+            shorten[table](&mut tables);
+        }
         let before = tables.clone();
-        assert_eq!(BY_CELL.plan(&task, &mut tables), [7, 0, 0, 0, 0]);
+        let first = short.trailing_zeros() as usize;
+        let told = [7, 0, 0, 0, 0, first, needed[first]];
+        assert_eq!(BY_CELL.plan(&task, &mut tables), told);
         assert!(tables == before);
     }
     assert_ne!(planned(&BY_CELL, &task).0[0], 7);

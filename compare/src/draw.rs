@@ -50,13 +50,14 @@ const WRONG_CAPACITIES: [usize; 4] = [0, MOST_RECORDS + 1, 1 << 16, usize::MAX];
 
 fn of_every_kind(random: &mut Random) -> Drawn {
     let (job, n) = match random.below(100) {
-        0..=39 => (generate::job(random), any_capacity(random)),
-        40..=64 => near_its_need(random),
-        65..=69 => {
+        0..=34 => (generate::job(random), any_capacity(random)),
+        35..=59 => near_its_need(random),
+        60..=64 => {
             let n = random.pick(&[2, 8, 32, 128, 256]);
             (generate::needing_about(random, n), n)
         }
-        70..=84 => (damage::refused_job(random), any_capacity(random)),
+        65..=79 => (damage::refused_job(random), any_capacity(random)),
+        80..=84 => (damage::sharing_job(random), any_capacity(random)),
         85..=92 => (generate::job(random), random.pick(&WRONG_CAPACITIES)),
         _ => {
             let job = generate::job(random);
@@ -108,6 +109,7 @@ fn rough(random: &mut Random) -> Drawn {
     let mut job = match random.below(100) {
         0..=1 => generate::job(random),
         2..=19 => any_numbers(random),
+        20..=24 => damage::sharing_job(random),
         _ => generate::small(random),
     };
     if random.chance(50) {

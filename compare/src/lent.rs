@@ -1,9 +1,11 @@
 //! What is lent to the library, full of anything where it is written, and what
 //! document 01 says that it holds afterwards.
 
+use second::damage;
 use second::job::Job;
 use second::planner::PlanAnswer;
 use second::random::Random;
+use second::tables::{Lengths, least_lengths};
 
 use crate::library::Piece;
 use crate::process::number_bytes;
@@ -64,21 +66,11 @@ pub fn telling(told: &Piece, values: &[usize]) -> Piece {
     after
 }
 
-/// The least lengths of record columns, plans, layers and output in entries,
-/// for a job and an N that pass checks 1 to 6: "record columns, 16-bit, at least
-/// 8 × N; plans, bytes, at least N × m × (H + 1); layers, bytes, at least (H + 1)
-/// × width × height; output, at least m × (H + 1) bytes".
-fn least_lengths(job: &Job, n: usize) -> [usize; 4] {
-    let steps = job.horizon + 1;
-    let plan = job.carriers.len() * steps;
-    [8 * n, n * plan, steps * job.width * job.height, plan]
-}
-
 /// The four tables that the planner is lent.
 pub struct Tables([Piece; 4]);
 
 impl Tables {
-    fn new(random: &mut Random, lengths: [usize; 4]) -> Self {
+    fn new(random: &mut Random, lengths: Lengths) -> Self {
         let [columns, plans, layers, output] = lengths;
         let mut table = |name, entry_size, entries| Piece {
             name,
@@ -100,27 +92,24 @@ impl Tables {
         Tables::new(random, lengths)
     }
 
-    /// Tables of which one, now and then, is too short.
+    /// Tables of which, now and then, one is too short, or two or three are.
     pub fn now_and_then_short(random: &mut Random, job: &Job, n: usize) -> Self {
         let mut lengths = lengths_for(random, job, n);
-        if random.chance(8) && job.refusal(Some(n)).is_none() {
-            let which = random.below(4);
-            let least = least_lengths(job, n)[which];
-            lengths[which] = random.pick(&[least - 1, least - 1, least / 2, 0]);
+        if random.chance(12) && job.refusal(Some(n)).is_none() {
+            damage::shorten(random, &mut lengths, least_lengths(job, n));
         }
         Tables::new(random, lengths)
     }
 
-    /// 7: "a lent table is too short", for a job that passes checks 1 to 6.
-    pub fn are_short(&self, job: &Job, n: usize) -> bool {
-        let mut tables = self.0.iter().zip(least_lengths(job, n));
-        tables.any(|(table, least)| table.entries() < least)
+    /// How many entries each has.
+    pub fn lengths(&self) -> Lengths {
+        self.0.each_ref().map(Piece::entries)
     }
 
-    /// "After 1 to 7 no lent entry has changed. After 0, 8 and 9 the named least
-    /// lengths of the first three tables are all zero and the rest unchanged.
-    /// Output changes only for 0: carrier by carrier, its cells for steps 0 to
-    /// H, the rest unchanged."
+    /// "After 1 to 7", and so after 16, "no lent entry has changed. After 0, 8
+    /// and 9 the named least lengths of the first three tables are all zero and
+    /// the rest unchanged. Output changes only for 0: carrier by carrier, its
+    /// cells for steps 0 to H, the rest unchanged."
     pub fn after(&self, answer: &PlanAnswer, job: &Job, n: usize) -> Vec<Piece> {
         let mut tables = self.0.clone();
         if [0, 8, 9].contains(&answer.number) {
@@ -141,10 +130,44 @@ impl Tables {
 /// A table's length for a job that is refused lies below this.
 const ANY_LENGTH: usize = 64;
 
-fn lengths_for(random: &mut Random, job: &Job, n: usize) -> [usize; 4] {
+fn lengths_for(random: &mut Random, job: &Job, n: usize) -> Lengths {
     let least = match job.refusal(Some(n)) {
         None => least_lengths(job, n),
         Some(_) => [(); 4].map(|()| random.below(ANY_LENGTH)),
     };
     least.map(|least| least + random.pick(&[0, 0, 1, 2, 17]))
+}
+
+#[cfg(test)]
+mod tests {
+    use super::*;
+    use second::generate;
+    use second::tables::first_short;
+
+    #[test]
+    fn one_two_or_three_tables_are_short_and_each_may_be_the_first() {
+        let mut random = Random::new(20);
+        let (mut short, mut first) = ([0; 5], [0; 4]);
+        for _ in 0..2000 {
+            let job = generate::small(&mut random);
+            let tables = Tables::now_and_then_short(&mut random, &job, 3);
+            let (lengths, least) = (tables.lengths(), least_lengths(&job, 3));
+            let both = lengths.into_iter().zip(least);
+            short[both.filter(|(has, least)| has < least).count()] += 1;
+            if let Some(told) = first_short(lengths, least) {
+                first[told.table] += 1;
+            }
+        }
+        assert!(short[..4].iter().all(|count| *count > 30), "{short:?}");
+        assert!(first.iter().all(|count| *count > 10), "{first:?}");
+    }
+
+    #[test]
+    fn the_columns_are_counted_in_entries_of_two_bytes() {
+        let job = generate::small(&mut Random::new(21));
+        let mut tables = Tables::new(&mut Random::new(22), least_lengths(&job, 3));
+        assert_eq!(tables.lengths(), least_lengths(&job, 3));
+        tables.0[0].bytes.truncate(8 * 3);
+        assert_eq!(tables.lengths()[0], 4 * 3);
+    }
 }

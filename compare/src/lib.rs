@@ -10,7 +10,7 @@
 //! | [`program`] | runs of the program                                         |
 //! | [`library`] | calls of the library                                        |
 //! | [`draw`]    | jobs with an N, and books: of every kind, or rough          |
-//! | [`lent`]    | lent tables: least lengths, and what they hold afterwards   |
+//! | [`lent`]    | lent tables: their lengths, and what they hold afterwards   |
 //! | [`trial`]   | one call of the library, compared                           |
 //! | [`rounds`]  | the calls made for one drawn job, and for one at every N    |
 //! | [`counts`]  | how often each number was given back                        |

@@ -28,7 +28,7 @@ pub struct Comparer {
 impl Comparer {
     /// The planner with these tables.
     pub fn plan(&mut self, job: &Job, n: usize, tables: Tables) -> Trial<PlanAnswer> {
-        let answer = answer(job, n, &tables);
+        let answer = planner::plan_lent(job, n, tables.lengths());
         let values = answer.told();
         let numbers = vec![job.width, job.height, job.k, job.horizon, n];
         let mut call = self.drawn_call(Function::Plan, numbers, Some(job));
@@ -109,18 +109,6 @@ impl Comparer {
         same_reply(&reply, number, &wanted)?;
         Ok(reply.number)
     }
-}
-
-/// Checks 1 to 6, then 7, for which the second program is lent no tables, then
-/// the tree.
-fn answer(job: &Job, n: usize, tables: &Tables) -> PlanAnswer {
-    if job.refusal(Some(n)).is_none() && tables.are_short(job, n) {
-        return PlanAnswer {
-            number: 7,
-            ..PlanAnswer::default()
-        };
-    }
-    planner::plan(job, n)
 }
 
 /// Offset and length of the body: "Bodies follow without gaps from byte 16".

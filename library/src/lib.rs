@@ -129,6 +129,20 @@ pub struct Told {
     pub records: usize,
     pub carrier: usize,
     pub other: usize,
+    pub table: usize,
+    pub needed: usize,
+}
+
+impl Told {
+    /// The first table that is too short, where the number is 7; `needed` is then its least length, in its own entries.
+    pub fn short_table(&self) -> Option<Table> {
+        (self.number == 7).then_some(match self.table {
+            0 => Table::Columns,
+            1 => Table::Plans,
+            2 => Table::Layers,
+            _ => Table::Output,
+        })
+    }
 }
 
 /// What a plan check tells. Untold numbers are 0.
@@ -140,10 +154,11 @@ pub struct Fault {
     pub step: usize,
     pub distance: usize,
     pub is_swap: bool,
+    pub needed: usize,
 }
 
 /// The tables that the planner works on; `Tables::for_records` makes some that suffice for every job.
-#[derive(Clone, Debug)]
+#[derive(Clone, Debug, PartialEq, Eq)]
 pub struct Tables {
     pub columns: Vec<u16>,
     pub plans: Vec<u8>,
@@ -163,10 +178,19 @@ impl Tables {
     }
 }
 
+/// One of the [`Tables`].
+#[derive(Clone, Copy, Debug, PartialEq, Eq)]
+pub enum Table {
+    Columns,
+    Plans,
+    Layers,
+    Output,
+}
+
 /// The planner with at most n records. For number 0 the plan stands at the start of `tables.output`: carrier by carrier, its cells
 /// for the steps 0 to h.
 pub fn plan(job: &Job, n: usize, tables: &mut Tables) -> Told {
-    let mut told = [0; 5];
+    let mut told = [0; 7];
     // SAFETY: each pointer comes with the length of the slice or vector that it is taken from, and the five that are written are
     // borrowed apart from each other.
     unsafe {
@@ -192,13 +216,15 @@ pub fn plan(job: &Job, n: usize, tables: &mut Tables) -> Told {
             told.len(),
         );
     }
-    let [number, sum, records, carrier, other] = told;
+    let [number, sum, records, carrier, other, table, needed] = told;
     Told {
         number,
         sum,
         records,
         carrier,
         other,
+        table,
+        needed,
     }
 }
 
@@ -219,7 +245,7 @@ type Check = unsafe extern "C" fn(
 ) -> usize;
 
 fn checked(check: Check, job: &Job, plan: &[u8]) -> Fault {
-    let mut told = [0; 6];
+    let mut told = [0; 7];
     // SAFETY: each pointer comes with the length of the slice or vector that it is taken from, and `told` is written alone.
     unsafe {
         check(
@@ -237,7 +263,7 @@ fn checked(check: Check, job: &Job, plan: &[u8]) -> Fault {
             told.len(),
         );
     }
-    let [number, carrier, other, step, distance, swap] = told;
+    let [number, carrier, other, step, distance, swap, needed] = told;
     Fault {
         number,
         carrier,
@@ -245,15 +271,16 @@ fn checked(check: Check, job: &Job, plan: &[u8]) -> Fault {
         step,
         distance,
         is_swap: swap == 1,
+        needed,
     }
 }
 
-/// Are the routes of a plan lawful? Number 0, 1 to 7, or 21 with a carrier and a step.
+/// Are the routes of a plan lawful? Number 0, 1 to 7, 16, or 21 with a carrier and a step.
 pub fn check_routes(job: &Job, plan: &[u8]) -> Fault {
     checked(linked::adfulmise_check_routes, job, plan)
 }
 
-/// Do two carriers of a plan meet, delays within k included? Number 0, 1 to 7, or 22 with the meeting or the swap.
+/// Do two carriers of a plan meet, delays within k included? Number 0, 1 to 7, 16, or 22 with the meeting or the swap.
 pub fn check_meetings(job: &Job, plan: &[u8]) -> Fault {
     checked(linked::adfulmise_check_meetings, job, plan)
 }

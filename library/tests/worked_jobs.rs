@@ -1,7 +1,7 @@
-//! Document 01's jobs worked by hand, and the printed book, through the linked library.
+//! Document 01's jobs worked by hand, refusals, and the printed book, through the linked library.
 
 use adfulmise::{
-    Carrier, Fault, Job, Kind, Tables, Told, body, check_meetings, check_routes, plan,
+    Carrier, Fault, Job, Kind, Table, Tables, Told, body, check_meetings, check_routes, plan,
 };
 
 const OPEN: [u8; 256] = [46; 256];
@@ -171,26 +171,101 @@ fn refusals() {
         ),
         told
     );
-    let shared = carriers(&[(0, 1), (2, 1)]);
+}
+
+/// Tables of these lengths, full of sevens: columns, plans, layers, output.
+fn lent([columns, plans, layers, output]: [usize; 4]) -> Tables {
+    Tables {
+        columns: vec![7; columns],
+        plans: vec![7; plans],
+        layers: vec![7; layers],
+        output: vec![7; output],
+    }
+}
+
+/// Sees that the planner and both checks tell this number and this pair of carriers in a row of sixteen cells, though the tables and
+/// the plan are empty.
+fn see_shared(ends: &[(u8, u8)], (number, carrier, other): (usize, usize, usize)) {
+    let ends = carriers(ends);
+    let row = job(16, 1, &ends, 0, 15);
     let told = Told {
-        number: 6,
-        carrier: 0,
-        other: 1,
+        number,
+        carrier,
+        other,
         ..Told::default()
     };
+    let fault = Fault {
+        number,
+        carrier,
+        other,
+        ..Fault::default()
+    };
+    assert_eq!(plan(&row, 128, &mut lent([0; 4])), told);
+    assert_eq!(check_routes(&row, &[]), fault);
+    assert_eq!(check_meetings(&row, &[]), fault);
+}
+
+#[test]
+fn a_shared_start() {
+    see_shared(&[(0, 1), (0, 2)], (6, 0, 1));
+    see_shared(&[(0, 1), (1, 2), (2, 3), (1, 4)], (6, 1, 3));
+    let three = [(0, 1), (1, 2), (2, 3), (2, 4), (1, 5), (1, 6)];
+    see_shared(&three, (6, 1, 4));
+}
+
+#[test]
+fn a_shared_goal() {
+    see_shared(&[(0, 1), (2, 1)], (16, 0, 1));
+    see_shared(&[(0, 1), (1, 2), (2, 3), (4, 2)], (16, 1, 3));
+    let three = [(0, 1), (1, 2), (2, 3), (4, 3), (5, 2), (6, 2)];
+    see_shared(&three, (16, 1, 4));
+}
+
+/// The start decides, whichever pair comes first.
+#[test]
+fn a_shared_start_beside_a_shared_goal() {
+    see_shared(&[(0, 1), (0, 1)], (6, 0, 1));
+    see_shared(&[(0, 1), (2, 1), (0, 3)], (6, 0, 2));
+    let starts = [0, 1, 2, 3, 4, 5, 6, 6];
+    let goals = [8, 8, 9, 10, 11, 12, 13, 14];
+    let eight: Vec<(u8, u8)> = starts.into_iter().zip(goals).collect();
+    see_shared(&eight, (6, 6, 7));
+}
+
+#[test]
+fn a_goal_that_is_anothers_start() {
+    let ends = carriers(&[(0, 1), (1, 2)]);
     assert_eq!(
-        number(
-            &Job {
-                carriers: &shared,
-                ..good
-            },
-            8
-        ),
-        told
+        planned(&job(3, 1, &ends, 0, 2), 8),
+        (counted(0, 2, 1), vec![0, 1, 1, 1, 2, 2])
     );
-    let mut short = Tables::for_records(8);
-    short.layers.truncate(8);
-    assert_eq!(plan(&good, 8, &mut short), counted(7, 0, 0));
+}
+
+/// Every choice of tables that lack one entry, from one alone to all four.
+#[test]
+fn short_tables() {
+    let ends = carriers(&[(0, 1), (1, 2)]);
+    let row = job(3, 1, &ends, 0, 2);
+    let needed = [64, 48, 9, 6];
+    let names = [Table::Columns, Table::Plans, Table::Layers, Table::Output];
+    let enough = plan(&row, 8, &mut lent(needed));
+    assert_eq!(enough, counted(0, 2, 1));
+    assert_eq!(enough.short_table(), None);
+    for short in 1..16_usize {
+        let first = short.trailing_zeros() as usize;
+        let before = lent([0, 1, 2, 3].map(|table| needed[table] - (short >> table & 1)));
+        let mut tables = before.clone();
+        let told = plan(&row, 8, &mut tables);
+        let wanted = Told {
+            number: 7,
+            table: first,
+            needed: needed[first],
+            ..Told::default()
+        };
+        assert_eq!(told, wanted);
+        assert_eq!(told.short_table(), Some(names[first]));
+        assert_eq!(tables, before);
+    }
 }
 
 /// As many carriers as a job may have, each one cell to the right: their records read one after the other are the plan.
@@ -233,7 +308,24 @@ fn faults_of_a_plan() {
         check_meetings(&job(2, 1, &across, 0, 1), &[0, 1, 1, 0]),
         swap
     );
-    assert_eq!(check_routes(&row, &[0, 0, 1]).number, 7);
+}
+
+#[test]
+fn a_plan_cut_short() {
+    let ends = carriers(&[(0, 1), (1, 2)]);
+    let row = job(3, 1, &ends, 1, 2);
+    let whole = [0, 0, 1, 1, 2, 2];
+    let short = Fault {
+        number: 7,
+        needed: 6,
+        ..Fault::default()
+    };
+    for check in [check_routes, check_meetings] {
+        assert_eq!(check(&row, &whole), Fault::default());
+        for length in 0..whole.len() {
+            assert_eq!(check(&row, &whole[..length]), short);
+        }
+    }
 }
 
 #[test]

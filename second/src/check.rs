@@ -6,8 +6,9 @@ use crate::job::{Carrier, Job, Refusal};
 use crate::meeting::{self, Kind, Meeting};
 
 /// What a check gives back. "Untold numbers are 0": a refusal tells what
-/// checks 5 and 6 tell, 21 tells carrier and step, 22 tells i (`carrier`), j
-/// (`other`), t (`step`), D (`distance`) and whether it is a swap.
+/// checks 5, 6 and 16 tell, 7 the length that the plan needed (`needed`), 21
+/// tells carrier and step, 22 tells i (`carrier`), j (`other`), t (`step`), D
+/// (`distance`) and whether it is a swap.
 #[derive(Clone, Copy, Debug, Default, PartialEq, Eq)]
 pub struct CheckAnswer {
     pub number: u8,
@@ -16,12 +17,13 @@ pub struct CheckAnswer {
     pub step: usize,
     pub distance: usize,
     pub swap: bool,
+    pub needed: usize,
 }
 
 impl CheckAnswer {
     /// The number given back and what is told with it: carrier, other, step,
-    /// distance, and 1 for a swap.
-    pub fn told(self) -> [usize; 6] {
+    /// distance, 1 for a swap, and the needed length.
+    pub fn told(self) -> [usize; 7] {
         let Self {
             number,
             carrier,
@@ -29,8 +31,10 @@ impl CheckAnswer {
             step,
             distance,
             swap,
+            needed,
         } = self;
-        [number.into(), carrier, other, step, distance, swap.into()]
+        let (number, swap) = (number.into(), swap.into());
+        [number, carrier, other, step, distance, swap, needed]
     }
 }
 
@@ -67,16 +71,19 @@ pub fn meeting_check(job: &Job, plan: &[u8]) -> CheckAnswer {
 }
 
 /// "Both begin with checks 1 to 6 (no N there), then 7 if the plan is shorter
-/// than m × (H + 1); bytes after that length are not read."
+/// than m × (H + 1); bytes after that length are not read." 16 comes "directly
+/// after 6 wherever 6 is given", and 7 tells "the length it needed" (P1).
 fn routes_of<'a>(job: &Job, plan: &'a [u8]) -> Result<Vec<&'a [u8]>, CheckAnswer> {
     if let Some(refusal) = job.refusal(None) {
         return Err(refusal.into());
     }
     let steps = job.horizon + 1;
-    match plan.get(..job.carriers.len() * steps) {
+    let needed = job.carriers.len() * steps;
+    match plan.get(..needed) {
         Some(read) => Ok(read.chunks(steps).collect()),
         None => Err(CheckAnswer {
             number: 7,
+            needed,
             ..CheckAnswer::default()
         }),
     }
@@ -113,6 +120,7 @@ impl From<Meeting> for CheckAnswer {
             step: meeting.step,
             distance: meeting.distance,
             swap: meeting.kind == Kind::Swap,
+            ..CheckAnswer::default()
         }
     }
 }
@@ -152,14 +160,16 @@ mod tests {
     fn a_short_plan_is_7_after_the_job_is_checked() {
         let short = CheckAnswer {
             number: 7,
+            needed: 8,
             ..CheckAnswer::default()
         };
+        assert_eq!(short.told(), [7, 0, 0, 0, 0, 0, 8]);
         assert_eq!(route_check(&job(), &[0; 7]), short);
         assert_eq!(meeting_check(&job(), &[0; 7]), short);
         let mut shared = job();
         shared.carriers[1].goal = 2;
         let told = CheckAnswer {
-            number: 6,
+            number: 16,
             other: 1,
             ..CheckAnswer::default()
         };
@@ -214,7 +224,7 @@ mod tests {
             other: 1,
             step: 0,
             distance: 1,
-            swap: false,
+            ..CheckAnswer::default()
         };
         assert_eq!(meeting_check(&late, &plan), meeting);
     }

@@ -1,19 +1,22 @@
-//! Jobs made to be refused by checks 1 to 6, and books made to be refused by
-//! the reader (11 to 14) or to be cut at 293 bytes.
+//! Jobs made to be refused by checks 1 to 6 and 16, lent tables made to be too
+//! short (7), and books made to be refused by the reader (11 to 14) or to be cut
+//! at 293 bytes.
 
 use crate::book::{Bodies, ENTRIES, ENTRY, FIRST_BODY};
 use crate::generate;
 use crate::job::{CLOSED, Carrier, Job, MOST_CARRIERS};
 use crate::print::{MOST_BYTES, RECORDS};
 use crate::random::Random;
+use crate::tables::Lengths;
 
 /// A book of any kind: in order or not, its job accepted or not.
 pub fn book(random: &mut Random) -> Vec<u8> {
     match random.below(100) {
-        0..=54 => Bodies::of(&generate::job(random)).bind(),
-        55..=66 => Bodies::of(&generate::crowded(random)).bind(),
-        67..=70 => Bodies::of(&generate::needing_about(random, RECORDS)).bind(),
-        71..=84 => Bodies::of(&refused_job(random)).bind(),
+        0..=49 => Bodies::of(&generate::job(random)).bind(),
+        50..=61 => Bodies::of(&generate::crowded(random)).bind(),
+        62..=65 => Bodies::of(&generate::needing_about(random, RECORDS)).bind(),
+        66..=79 => Bodies::of(&refused_job(random)).bind(),
+        80..=84 => Bodies::of(&sharing_job(random)).bind(),
         _ => damaged_book(random),
     }
 }
@@ -30,13 +33,13 @@ pub fn rough_input(random: &mut Random) -> Vec<u8> {
     }
 }
 
-/// A job with one to three faults of checks 1 to 6.
+/// A job with one to three faults of checks 1 to 6 and 16.
 pub fn refused_job(random: &mut Random) -> Job {
     let job = generate::job(random);
     spoilt_job(random, job)
 }
 
-/// The job with one to three faults of checks 1 to 6.
+/// The job with one to three faults of checks 1 to 6 and 16.
 pub fn spoilt_job(random: &mut Random, mut job: Job) -> Job {
     for _ in 0..random.pick(&[1, 1, 1, 2, 3]) {
         let spoil = random.pick(&[
@@ -45,11 +48,33 @@ pub fn spoilt_job(random: &mut Random, mut job: Job) -> Job {
             spoil_limits,
             spoil_count,
             spoil_cell,
-            spoil_sharing,
+            share_starts,
+            share_goals,
+            share_starts_and_goals,
         ]);
         spoil(random, &mut job);
     }
     job
+}
+
+/// A job without a fault of checks 1 to 5 whose carriers share starts, goals or
+/// both, or have any ends, which may share nothing.
+pub fn sharing_job(random: &mut Random) -> Job {
+    let mut job = generate::crowded(random);
+    let share = random.pick(&[share_starts, share_goals, share_starts_and_goals, any_ends]);
+    share(random, &mut job);
+    job
+}
+
+/// For 7: of the tables with these lengths one becomes too short, or two or
+/// three at once, often by one entry.
+pub fn shorten(random: &mut Random, lengths: &mut Lengths, least: Lengths) {
+    let mut tables = [0, 1, 2, 3];
+    random.shuffle(&mut tables);
+    for &table in &tables[..random.pick(&[1, 1, 2, 3])] {
+        let least = least[table];
+        lengths[table] = random.pick(&[least - 1, least - 1, least / 2, 0]);
+    }
 }
 
 /// A book with a fault, its job in order or not.
@@ -154,21 +179,60 @@ fn spoil_cell(random: &mut Random, job: &mut Job) {
     }
 }
 
-/// For 6: "two carriers share a start, or share a goal".
-fn spoil_sharing(random: &mut Random, job: &mut Job) {
-    let Some(&last) = job.carriers.last() else {
-        return;
+/// For 6: "two carriers with one start", alone.
+fn share_starts(random: &mut Random, job: &mut Job) {
+    for (i, j) in pairs(random, job.carriers.len()) {
+        job.carriers[i].start = job.carriers[j].start;
+    }
+}
+
+/// For 16: two carriers with "one goal", alone.
+fn share_goals(random: &mut Random, job: &mut Job) {
+    for (i, j) in pairs(random, job.carriers.len()) {
+        job.carriers[i].goal = job.carriers[j].goal;
+    }
+}
+
+/// For 6 although a goal is shared too: by two others where there are four
+/// carriers, by another pair where there are three.
+fn share_starts_and_goals(random: &mut Random, job: &mut Job) {
+    let mut order: Vec<usize> = (0..job.carriers.len()).collect();
+    random.shuffle(&mut order);
+    match order[..] {
+        [] => {}
+        [only] => job.carriers.push(job.carriers[only]),
+        [a, b] => share(job, (a, b), (a, b)),
+        [a, b, c] => share(job, (a, b), (b, c)),
+        [a, b, c, d, ..] => share(job, (a, b), (c, d)),
+    }
+}
+
+/// Gives the first of each pair the second's start or goal.
+fn share(job: &mut Job, starts: (usize, usize), goals: (usize, usize)) {
+    job.carriers[starts.0].start = job.carriers[starts.1].start;
+    job.carriers[goals.0].goal = job.carriers[goals.1].goal;
+}
+
+/// Any open cells as starts and as goals.
+fn any_ends(random: &mut Random, job: &mut Job) {
+    let open: Vec<u8> = (0..=u8::MAX).filter(|cell| job.is_open(*cell)).collect();
+    for carrier in &mut job.carriers {
+        carrier.start = random.pick(&open);
+        carrier.goal = random.pick(&open);
+    }
+}
+
+/// One to three pairs of different carriers; none if there are not two.
+fn pairs(random: &mut Random, carriers: usize) -> Vec<(usize, usize)> {
+    if carriers < 2 {
+        return vec![];
+    }
+    let many = random.pick(&[1, 1, 2, 3]);
+    let mut pair = || {
+        let i = random.below(carriers);
+        (i, (i + random.between(1, carriers - 1)) % carriers)
     };
-    if job.carriers.len() == 1 {
-        job.carriers.push(last);
-        return;
-    }
-    let i = random.below(job.carriers.len() - 1);
-    if random.chance(50) {
-        job.carriers[i].start = last.start;
-    } else {
-        job.carriers[i].goal = last.goal;
-    }
+    (0..many).map(|_| pair()).collect()
 }
 
 /// For 14: "hall body under 2 bytes, carriers body of odd length, or limits
@@ -263,7 +327,8 @@ fn any_bytes(random: &mut Random, mut book: Vec<u8>) -> Vec<u8> {
 mod tests {
     use super::*;
     use crate::book::Book;
-    use std::collections::BTreeSet;
+    use crate::brute::refusals;
+    use std::collections::{BTreeMap, BTreeSet};
 
     #[test]
     fn refused_jobs_have_every_refusal() {
@@ -272,7 +337,47 @@ mod tests {
             .filter_map(|_| refused_job(&mut random).refusal(None))
             .map(|refusal| refusal.number())
             .collect();
-        assert_eq!(numbers, BTreeSet::from([1, 2, 3, 4, 5, 6]));
+        assert_eq!(numbers, BTreeSet::from([1, 2, 3, 4, 5, 6, 16]));
+    }
+
+    #[test]
+    fn sharing_jobs_share_starts_goals_both_or_nothing() {
+        let mut random = Random::new(5);
+        let mut sorts: BTreeMap<(bool, bool), usize> = BTreeMap::new();
+        let mut lesser_goals = 0;
+        for _ in 0..400 {
+            let job = sharing_job(&mut random);
+            let starts = refusals::with_one_start(&job).into_iter().min();
+            let goals = refusals::with_one_goal(&job).into_iter().min();
+            *sorts
+                .entry((starts.is_some(), goals.is_some()))
+                .or_default() += 1;
+            lesser_goals += usize::from(goals.is_some() && goals < starts);
+        }
+        assert_eq!(sorts.len(), 4);
+        assert!(sorts.values().all(|count| *count > 20), "{sorts:?}");
+        assert!(lesser_goals > 50, "only {lesser_goals}");
+    }
+
+    #[test]
+    fn one_to_three_tables_become_short() {
+        let mut random = Random::new(6);
+        let least = [8, 10, 12, 5];
+        let mut sorts = [0; 5];
+        let mut by_one = 0;
+        for _ in 0..400 {
+            let mut lengths = [8, 11, 29, 5];
+            shorten(&mut random, &mut lengths, least);
+            let tables = lengths.into_iter().zip(least);
+            let missing: Vec<usize> = tables
+                .filter_map(|(has, least)| least.checked_sub(has + 1))
+                .collect();
+            sorts[missing.len()] += 1;
+            by_one += usize::from(missing == [0]);
+        }
+        assert!(sorts[1..4].iter().all(|count| *count > 50), "{sorts:?}");
+        assert_eq!((sorts[0], sorts[4]), (0, 0));
+        assert!(by_one > 50, "only {by_one}");
     }
 
     #[test]

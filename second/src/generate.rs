@@ -1,4 +1,4 @@
-//! Random jobs that pass checks 1 to 6.
+//! Random jobs that pass checks 1 to 6 and 16.
 
 use crate::bar::Barred;
 use crate::floor::Floor;
@@ -130,8 +130,8 @@ fn hall(random: &mut Random, cells: usize, density: usize) -> Vec<u8> {
     hall
 }
 
-/// Carriers with different starts and different goals, some of them parked
-/// (start = goal).
+/// Carriers with different starts and different goals. Some are parked (start =
+/// goal), some have the start of another as their goal, which is no fault.
 fn carriers_on(random: &mut Random, hall: &[u8], carriers: usize) -> Vec<Carrier> {
     let mut starts: Vec<u8> = (0..=u8::MAX)
         .zip(hall)
@@ -141,18 +141,21 @@ fn carriers_on(random: &mut Random, hall: &[u8], carriers: usize) -> Vec<Carrier
     let mut goals = starts.clone();
     random.shuffle(&mut starts);
     random.shuffle(&mut goals);
-    for i in 0..carriers.min(starts.len()) {
-        if random.chance(8) {
-            park(&starts, &mut goals, i);
+    starts.truncate(carriers);
+    for i in 0..starts.len() {
+        match random.below(100) {
+            0..=7 => send(&mut goals, i, starts[i]),
+            8..=19 => send(&mut goals, i, random.pick(&starts)),
+            _ => {}
         }
     }
-    let ends = starts.into_iter().zip(goals).take(carriers);
+    let ends = starts.into_iter().zip(goals);
     ends.map(|(start, goal)| Carrier { start, goal }).collect()
 }
 
-/// Gives carrier i its start as its goal, and its goal to the one that had that.
-fn park(starts: &[u8], goals: &mut [u8], i: usize) {
-    let had = goals.iter().position(|goal| *goal == starts[i]);
+/// Gives carrier i the cell as its goal, and its goal to the one that had that.
+fn send(goals: &mut [u8], i: usize, cell: u8) {
+    let had = goals.iter().position(|goal| *goal == cell);
     goals.swap(i, had.expect("each open cell is a goal of the list"));
 }
 
@@ -188,13 +191,27 @@ mod tests {
     use super::*;
 
     #[test]
-    fn jobs_pass_checks_1_to_6() {
+    fn jobs_pass_checks_1_to_6_and_16() {
         let mut random = Random::new(7);
         for _ in 0..300 {
             assert_eq!(job(&mut random).refusal(None), None);
             assert_eq!(crowded(&mut random).refusal(None), None);
             assert_eq!(small(&mut random).refusal(None), None);
         }
+    }
+
+    #[test]
+    fn the_start_of_another_is_often_a_goal() {
+        let mut random = Random::new(9);
+        let chained = |job: &Job| {
+            let starts = job.carriers.iter().enumerate();
+            let mut pairs =
+                starts.flat_map(|a| job.carriers.iter().enumerate().map(move |b| (a, b)));
+            pairs.any(|((i, a), (j, b))| i != j && a.start == b.goal)
+        };
+        let jobs = (0..300).map(|_| job(&mut random));
+        let many = jobs.filter(chained).count();
+        assert!(many > 100, "only {many}");
     }
 
     #[test]

@@ -36,7 +36,7 @@ pub struct Job {
     pub horizon: usize,
 }
 
-/// What checks 1 to 6 refuse, with what is "also told".
+/// What checks 1 to 6 and 16 refuse, with what is "also told".
 #[derive(Clone, Copy, Debug, PartialEq, Eq)]
 pub enum Refusal {
     /// 1: "width or height is 0 or above 16".
@@ -49,9 +49,11 @@ pub enum Refusal {
     Count,
     /// 5: "a start or goal is outside the grid or closed"; "first such carrier".
     Cell { carrier: usize },
-    /// 6: "two carriers share a start, or share a goal"; "least i, then least
-    /// j, i < j".
-    Shared { carrier: usize, other: usize },
+    /// 6: "two carriers with one start" (P1); "least i, then least j, i < j".
+    SharedStart { carrier: usize, other: usize },
+    /// 16: "shared goal, directly after 6 wherever 6 is given" (P1); the pair
+    /// as for 6.
+    SharedGoal { carrier: usize, other: usize },
 }
 
 impl Refusal {
@@ -63,14 +65,17 @@ impl Refusal {
             Refusal::Limits => 3,
             Refusal::Count => 4,
             Refusal::Cell { .. } => 5,
-            Refusal::Shared { .. } => 6,
+            Refusal::SharedStart { .. } => 6,
+            Refusal::SharedGoal { .. } => 16,
         }
     }
 
     /// The carrier told. "Untold numbers are 0."
     pub fn carrier(self) -> usize {
         match self {
-            Refusal::Cell { carrier } | Refusal::Shared { carrier, .. } => carrier,
+            Refusal::Cell { carrier }
+            | Refusal::SharedStart { carrier, .. }
+            | Refusal::SharedGoal { carrier, .. } => carrier,
             _ => 0,
         }
     }
@@ -78,22 +83,23 @@ impl Refusal {
     /// The other carrier told. "Untold numbers are 0."
     pub fn other(self) -> usize {
         match self {
-            Refusal::Shared { other, .. } => other,
+            Refusal::SharedStart { other, .. } | Refusal::SharedGoal { other, .. } => other,
             _ => 0,
         }
     }
 }
 
 impl Job {
-    /// Checks 1 to 6. "If several apply, the lowest number is given." The two
-    /// plan checks give no capacity ("no N there").
+    /// Checks 1 to 6, then 16. "If several apply, the lowest number is given."
+    /// The two plan checks give no capacity ("no N there").
     pub fn refusal(&self, capacity: Option<usize>) -> Option<Refusal> {
         self.wrong_size()
             .or_else(|| self.wrong_hall())
             .or_else(|| self.wrong_limits(capacity))
             .or_else(|| self.wrong_count())
             .or_else(|| self.wrong_cell())
-            .or_else(|| self.shared_cell())
+            .or_else(|| self.shared_start())
+            .or_else(|| self.shared_goal())
     }
 
     /// Whether the cell is inside the grid and open.
@@ -132,14 +138,22 @@ impl Job {
             .map(|carrier| Refusal::Cell { carrier })
     }
 
-    fn shared_cell(&self) -> Option<Refusal> {
-        let shares = |a: &Carrier, b: &Carrier| a.start == b.start || a.goal == b.goal;
+    fn shared_start(&self) -> Option<Refusal> {
+        let (carrier, other) = self.first_pair_with_one(|carrier| carrier.start)?;
+        Some(Refusal::SharedStart { carrier, other })
+    }
+
+    fn shared_goal(&self) -> Option<Refusal> {
+        let (carrier, other) = self.first_pair_with_one(|carrier| carrier.goal)?;
+        Some(Refusal::SharedGoal { carrier, other })
+    }
+
+    /// The carriers that have one such end: "least i, then least j, i < j".
+    fn first_pair_with_one(&self, end: fn(&Carrier) -> u8) -> Option<(usize, usize)> {
         self.carriers.iter().enumerate().find_map(|(i, a)| {
-            let behind = self.carriers[i + 1..].iter().position(|b| shares(a, b))?;
-            Some(Refusal::Shared {
-                carrier: i,
-                other: i + 1 + behind,
-            })
+            let mut behind = self.carriers[i + 1..].iter();
+            let between = behind.position(|b| end(a) == end(b))?;
+            Some((i, i + 1 + between))
         })
     }
 }
@@ -230,20 +244,40 @@ mod tests {
     }
 
     #[test]
-    fn least_shared_pair() {
-        let mut goals = job();
-        goals.carriers[2].goal = 5;
-        let pair = Refusal::Shared {
-            carrier: 1,
-            other: 2,
-        };
-        assert_eq!(goals.refusal(None), Some(pair));
-        goals.carriers[2].start = 0;
-        let pair = Refusal::Shared {
-            carrier: 0,
-            other: 2,
-        };
-        assert_eq!(goals.refusal(None), Some(pair));
-        assert_eq!((pair.number(), pair.carrier(), pair.other()), (6, 0, 2));
+    fn least_pair_with_one_start_and_with_one_goal() {
+        let mut shared = job();
+        shared.carriers[2].goal = 5;
+        let (carrier, other) = (1, 2);
+        let one_goal = Refusal::SharedGoal { carrier, other };
+        assert_eq!(shared.refusal(None), Some(one_goal));
+        assert_eq!(told(one_goal), (16, 1, 2));
+        shared.carriers[2].start = 0;
+        let (carrier, other) = (0, 2);
+        let one_start = Refusal::SharedStart { carrier, other };
+        assert_eq!(shared.refusal(None), Some(one_start));
+        assert_eq!(told(one_start), (6, 0, 2));
+    }
+
+    #[test]
+    fn three_with_one_end_tell_the_first_two() {
+        let mut shared = job();
+        shared.carriers.push(Carrier { start: 2, goal: 5 });
+        shared.carriers.push(Carrier { start: 5, goal: 5 });
+        assert_eq!(shared.refusal(None).map(told), Some((16, 1, 3)));
+        shared.carriers[2].start = 5;
+        shared.carriers[1].start = 5;
+        assert_eq!(shared.refusal(None).map(told), Some((6, 1, 2)));
+    }
+
+    #[test]
+    fn the_start_of_another_may_be_a_goal() {
+        let mut chained = job();
+        chained.carriers[0].goal = 4;
+        chained.carriers[1].goal = 0;
+        assert_eq!(chained.refusal(None), None);
+    }
+
+    fn told(refusal: Refusal) -> (u8, usize, usize) {
+        (refusal.number(), refusal.carrier(), refusal.other())
     }
 }

@@ -1,9 +1,11 @@
 //! A second, independent program for document 01 ("a planner for delayed
-//! carriers, with exact rules"). It exists to disagree with the first one.
+//! carriers, with exact rules") with P1 of document 02 ("Tell us which ends are
+//! shared"). It exists to disagree with the first one.
 //!
 //! | Module       | Idea of document 01                                     |
 //! |--------------|---------------------------------------------------------|
-//! | [`job`]      | the job and checks 1 to 6                               |
+//! | [`job`]      | the job and checks 1 to 6 and 16                        |
+//! | [`tables`]   | the least lengths of lent tables, and check 7           |
 //! | [`floor`]    | cells and the moves between them                        |
 //! | [`bar`]      | bars (rule 1)                                           |
 //! | [`route`]    | a carrier's route under its bars (rule 2), costs        |
@@ -31,4 +33,5 @@ pub mod planner;
 pub mod print;
 pub mod random;
 pub mod route;
+pub mod tables;
 pub mod tree;

@@ -1,8 +1,9 @@
-//! The planner: checks 1 to 6, then the tree, then the numbers given back.
-//! Check 7 concerns lent tables; this planner lends itself none.
+//! The planner: checks 1 to 6, then 16, then 7, then the tree, then the numbers
+//! given back. Of the lent tables it is told only the lengths.
 
 use crate::job::{Job, Refusal};
 use crate::route::Route;
+use crate::tables::{self, ENOUGH, Lengths, ShortTable};
 use crate::tree::{self, Outcome};
 
 /// The numbers given back and the plan. "Untold numbers are 0", and there are
@@ -14,13 +15,24 @@ pub struct PlanAnswer {
     pub records: usize,
     pub carrier: usize,
     pub other: usize,
+    pub table: usize,
+    pub needed: usize,
     pub routes: Vec<Route>,
 }
 
-/// Plans the job with `capacity` (N) records.
+/// Plans the job with `capacity` (N) records and tables that suffice.
 pub fn plan(job: &Job, capacity: usize) -> PlanAnswer {
-    match job.refusal(Some(capacity)) {
-        Some(refusal) => refusal.into(),
+    plan_lent(job, capacity, ENOUGH)
+}
+
+/// Plans the job with `capacity` (N) records and lent tables of these lengths.
+/// "Checks 1 to 7 come before the search", 16 "directly after 6" (P1).
+pub fn plan_lent(job: &Job, capacity: usize, lengths: Lengths) -> PlanAnswer {
+    if let Some(refusal) = job.refusal(Some(capacity)) {
+        return refusal.into();
+    }
+    match tables::first_short(lengths, tables::least_lengths(job, capacity)) {
+        Some(short) => short.into(),
         None => tree::search(job, capacity).into(),
     }
 }
@@ -31,6 +43,17 @@ impl From<Refusal> for PlanAnswer {
             number: refusal.number(),
             carrier: refusal.carrier(),
             other: refusal.other(),
+            ..PlanAnswer::default()
+        }
+    }
+}
+
+impl From<ShortTable> for PlanAnswer {
+    fn from(short: ShortTable) -> Self {
+        PlanAnswer {
+            number: 7,
+            table: short.table,
+            needed: short.needed,
             ..PlanAnswer::default()
         }
     }
@@ -65,14 +88,16 @@ impl From<Outcome> for PlanAnswer {
 
 impl PlanAnswer {
     /// The number given back and what is "also told": sum, records, carrier,
-    /// other.
-    pub fn told(&self) -> [usize; 5] {
+    /// other, table, needed.
+    pub fn told(&self) -> [usize; 7] {
         [
             usize::from(self.number),
             self.sum,
             self.records,
             self.carrier,
             self.other,
+            self.table,
+            self.needed,
         ]
     }
 

@@ -20,17 +20,19 @@ pub fn print_book(bytes: &[u8]) -> String {
 pub fn print_book_with(bytes: &[u8], capacity: usize) -> String {
     let read = &bytes[..bytes.len().min(MOST_BYTES)];
     let lines = match Book::read(read) {
-        Ok(book) => answer_lines(&book.job(), capacity),
+        Ok(book) => {
+            let job = book.job();
+            answer_lines(&job, &planner::plan(&job, capacity))
+        }
         Err(refusal) => vec![answer_line(refusal.number())],
     };
     lines.iter().map(|line| format!("{line}\n")).collect()
 }
 
 /// "One line `answer` and the number", and what follows it.
-fn answer_lines(job: &Job, capacity: usize) -> Vec<String> {
-    let answer = planner::plan(job, capacity);
+fn answer_lines(job: &Job, answer: &PlanAnswer) -> Vec<String> {
     let mut lines = vec![answer_line(answer.number)];
-    lines.extend(told_lines(job, &answer));
+    lines.extend(told_lines(job, answer));
     lines
 }
 
@@ -39,11 +41,16 @@ fn answer_line(number: u8) -> String {
 }
 
 /// "For 5 a line `carrier i`; for 6 `carriers i j`; for 8 and 9 `records r`."
+/// 16 is "printed like" 6 (P1), and 7 tells its table and the needed length.
 fn told_lines(job: &Job, answer: &PlanAnswer) -> Vec<String> {
     match answer.number {
         0 => plan_lines(job, answer),
         5 => vec![format!("carrier {}", answer.carrier)],
-        6 => vec![format!("carriers {} {}", answer.carrier, answer.other)],
+        6 | 16 => vec![format!("carriers {} {}", answer.carrier, answer.other)],
+        7 => vec![
+            format!("table {}", answer.table),
+            format!("needed {}", answer.needed),
+        ],
         8 | 9 => vec![format!("records {}", answer.records)],
         _ => vec![],
     }
@@ -107,11 +114,21 @@ mod tests {
         assert_eq!(book(&|b| b.limits[0] = 5), "answer 3\n");
         assert_eq!(book(&|b| b.carriers.clear()), "answer 4\n");
         assert_eq!(book(&|b| b.carriers[2] = 9), "answer 5\ncarrier 1\n");
-        assert_eq!(book(&|b| b.carriers[3] = 5), "answer 6\ncarriers 0 1\n");
+        assert_eq!(book(&|b| b.carriers[2] = 3), "answer 6\ncarriers 0 1\n");
+        assert_eq!(book(&|b| b.carriers[3] = 5), "answer 16\ncarriers 0 1\n");
         assert_eq!(book(&|b| b.limits[1] = 1), "answer 8\nrecords 0\n");
         assert_eq!(book(&|b| b.limits.clear()), "answer 14\n");
         let short = print_book_with(&bodies().bind(), 2);
         assert_eq!(short, "answer 9\nrecords 2\n");
+    }
+
+    #[test]
+    fn the_lines_of_a_short_table() {
+        let bytes = bodies().bind();
+        let job = Book::read(&bytes).expect("in order").job();
+        let answer = planner::plan_lent(&job, RECORDS, [1024, 1279, 0, 0]);
+        let lines = ["answer 7", "table 1", "needed 1280"];
+        assert_eq!(answer_lines(&job, &answer), lines);
     }
 
     #[test]

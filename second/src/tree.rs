@@ -23,8 +23,8 @@ pub enum Outcome {
     Full { records: usize },
 }
 
-/// Grows the tree for a job that passed checks 1 to 6, with at most `capacity`
-/// records (any number: check 3 is not made here).
+/// Grows the tree for a job that passed checks 1 to 6 and 16, with at most
+/// `capacity` records (any number: check 3 is not made here).
 pub fn search(job: &Job, capacity: usize) -> Outcome {
     let mut tree = Tree::new(job, capacity);
     if tree.plant().is_err() {

@@ -123,7 +123,7 @@ fn told_numbers_of_refusals() {
     assert_eq!(answer(&square, 128), told);
     square.carriers[1].goal = 5;
     let told = PlanAnswer {
-        number: 6,
+        number: 16,
         other: 1,
         ..PlanAnswer::default()
     };

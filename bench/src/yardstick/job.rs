@@ -1,4 +1,5 @@
-//! Checks 1 to 7, "the lowest number is given".
+//! Checks 1 to 7, "the lowest number is given", and document 02's 16, "directly
+//! after 6".
 
 use super::floor::{CLOSED, OPEN};
 use super::records::MOST_RECORDS;
@@ -11,7 +12,7 @@ pub const MOST_CARRIERS: usize = 8;
 
 /// What is told of a job or of tables that are refused.
 pub fn refusal(task: &PlanTask, tables: &Tables) -> Option<Told> {
-    let alone = |number| Some([number, 0, 0, 0, 0]);
+    let alone = |number| Some([number, 0, 0, 0, 0, 0, 0]);
     if !right_sides(task.width, task.height) {
         return alone(1);
     }
@@ -25,15 +26,16 @@ pub fn refusal(task: &PlanTask, tables: &Tables) -> Option<Told> {
         return alone(4);
     }
     if let Some(carrier) = wrong_ends(task) {
-        return Some([5, 0, 0, carrier, 0]);
+        return Some([5, 0, 0, carrier, 0, 0, 0]);
     }
-    if let Some((carrier, other)) = shared_ends(task) {
-        return Some([6, 0, 0, carrier, other]);
+    if let Some((carrier, other)) = sharing(task, |ends| ends.start) {
+        return Some([6, 0, 0, carrier, other, 0, 0]);
     }
-    if short(task, tables) {
-        return alone(7);
+    if let Some((carrier, other)) = sharing(task, |ends| ends.goal) {
+        return Some([16, 0, 0, carrier, other, 0, 0]);
     }
-    None
+    let (table, needed) = short(task, tables)?;
+    Some([7, 0, 0, 0, 0, table, needed])
 }
 
 pub fn right_sides(width: usize, height: usize) -> bool {
@@ -54,18 +56,27 @@ fn wrong_ends(task: &PlanTask) -> Option<usize> {
     carriers.position(|ends| !open(ends.start) || !open(ends.goal))
 }
 
-fn shared_ends(task: &PlanTask) -> Option<(usize, usize)> {
-    let share = |one: &Carrier, other: &Carrier| one.start == other.start || one.goal == other.goal;
+/// The first two carriers with one start, or with one goal: "least i, then least
+/// j, i < j".
+fn sharing(task: &PlanTask, end: fn(&Carrier) -> u8) -> Option<(usize, usize)> {
     task.carriers.iter().enumerate().find_map(|(i, ends)| {
         let mut behind = task.carriers[i + 1..].iter();
-        let offset = behind.position(|other| share(ends, other))?;
+        let offset = behind.position(|other| end(other) == end(ends))?;
         Some((i, i + 1 + offset))
     })
 }
 
-fn short(task: &PlanTask, tables: &Tables) -> bool {
-    tables.columns.len() < task.columns_len()
-        || tables.plans.len() < task.plans_len()
-        || tables.layers.len() < task.layers_len()
-        || tables.output.len() < task.stretch_len()
+/// Document 02: "the first short table, in document 01's order, and the length it
+/// needed".
+fn short(task: &PlanTask, tables: &Tables) -> Option<(usize, usize)> {
+    [
+        (tables.columns.len(), task.columns_len()),
+        (tables.plans.len(), task.plans_len()),
+        (tables.layers.len(), task.layers_len()),
+        (tables.output.len(), task.stretch_len()),
+    ]
+    .into_iter()
+    .enumerate()
+    .find(|(_, (lent, needed))| lent < needed)
+    .map(|(table, (_, needed))| (table, needed))
 }

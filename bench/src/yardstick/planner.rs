@@ -53,7 +53,7 @@ pub fn plan(task: &PlanTask, fill_layer: FillLayer, tables: &mut Tables) -> Told
         Outcome::UsedUp { .. } => (8, 0),
         Outcome::Full { .. } => (9, 0),
     };
-    [number, sum, outcome.records(), 0, 0]
+    [number, sum, outcome.records(), 0, 0, 0, 0]
 }
 
 /// Grows the tree of a job that passed the checks.

@@ -13,10 +13,10 @@ written values lent = cond (ltb (length lent) (length values)) lent (values ++ d
 
 -- what the planner tells, and what a check tells
 abbrev pub toldValues : Told → List ℕ
-toldValues t = t .number ∷ t .sum ∷ t .records ∷ t .carrier ∷ t .other ∷ []
+toldValues t = t .number ∷ t .sum ∷ t .records ∷ t .carrier ∷ t .other ∷ t .table ∷ t .needed ∷ []
 
 abbrev pub faultValues : Fault → List ℕ
-faultValues f = f .number ∷ f .carrier ∷ f .other ∷ f .step ∷ f .distance ∷ f .swap ∷ []
+faultValues f = f .number ∷ f .carrier ∷ f .other ∷ f .step ∷ f .distance ∷ f .swap ∷ f .needed ∷ []
 
 -- where a body stands in its book, and how long it is
 abbrev pub placeValues : ℕ → ℕ → List ℕ

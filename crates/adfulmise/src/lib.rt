@@ -18,9 +18,9 @@ ghost use Rattle.adfulmise.specs.Lent.{written, toldValues, faultValues,
 ghost use Rattle.adfulmise.specs.Post.{Answered, Checked, Read};
 
 // How many numbers each function tells.
-const TOLD_LENGTH: usize = 5;
+const TOLD_LENGTH: usize = 7;
 
-const FAULT_LENGTH: usize = 6;
+const FAULT_LENGTH: usize = 7;
 
 const PLACE_LENGTH: usize = 2;
 
@@ -36,6 +36,8 @@ fn write_told(values: Told, told: &mut [usize])
     told[2] = values.records;
     told[3] = values.carrier;
     told[4] = values.other;
+    told[5] = values.table;
+    told[6] = values.needed;
 }
 
 // What an answer tells, and its number. It stands apart since only a function that is lent records has its proof by hand.
@@ -47,7 +49,7 @@ fn tell_answer(answer: Answer, told: &mut [usize]) -> usize
     values.number
 }
 
-// The planner; `told` becomes number, sum, records, carrier and other.
+// The planner; `told` becomes number, sum, records, carrier, other, table and needed.
 #[no_mangle]
 pub extern "C" fn adfulmise_plan(
     hall: &[u8],
@@ -94,6 +96,7 @@ fn write_fault(fault: Fault, told: &mut [usize])
     told[3] = fault.step;
     told[4] = fault.distance;
     told[5] = fault.swap;
+    told[6] = fault.needed;
 }
 
 // What a verdict tells, and its number.
@@ -113,7 +116,7 @@ fn tell_meetings(verdict: MeetingVerdict, told: &mut [usize]) -> usize
     fault.number
 }
 
-// The route check; `told` becomes number, carrier, other, step, distance and 1 for a swap.
+// The route check; `told` becomes number, carrier, other, step, distance, 1 for a swap, and needed.
 #[no_mangle]
 pub extern "C" fn adfulmise_check_routes(
     hall: &[u8],

@@ -1,5 +1,5 @@
 // Plans of document 01's worked jobs, and wrong ones, through both checks. For each plan and check one line: the plan's name, the
-// check, then number, carrier, other, step, distance, and 1 for a swap. 'Untold numbers are 0.'
+// check, then number, carrier, other, step, distance, 1 for a swap, and needed. 'Untold numbers are 0.'
 use job::Fault;
 use job::Team;
 
@@ -19,6 +19,7 @@ fn print_line(name: &[u8], check: &[u8], t: Fault) {
     print_number(t.step);
     print_number(t.distance);
     print_number(t.swap);
+    print_number(t.needed);
     io::write_all(STDOUT, b"\n");
 }
 
@@ -377,7 +378,7 @@ fn refused_halls() {
     refused(b"wrong byte", b"........x", 3, 3, alone(3, 5), 0, 0);
 }
 
-// Answers 3 to 6.
+// Answers 3 to 6 and 16.
 fn refused_carriers() {
     refused(b"k 5", b".........", 3, 3, alone(3, 5), 5, 0);
     refused(b"H 64", b".........", 3, 3, alone(3, 5), 0, 64);
@@ -405,7 +406,7 @@ fn refused_carriers() {
     );
 }
 
-// 'If several apply, the lowest number is given.'
+// 'If several apply, the lowest number is given', 16 'directly after 6'.
 fn lowest_number() {
     both(b"width 0 and k 5", b"", 0, 1, alone(0, 0), 5, 0, &[0]);
     both(
@@ -439,6 +440,14 @@ fn lowest_number() {
         0,
         &[0],
     );
+    row(
+        b"goals of 0 and 1 and starts of 1 and 2 shared",
+        three(0, 2, 1, 2, 1, 0),
+        0,
+        0,
+        &[0],
+    );
+    row(b"goal shared and short", pair(0, 2, 1, 2), 0, 2, &[0]);
 }
 
 fn main() {

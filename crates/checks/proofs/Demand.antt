@@ -4,7 +4,7 @@ use Prim.Native.Nat.{ℕ, _+_, _-_, _*_, _≤_, _<_}
 use native.Mathlib.Omega.{arith}
 use native.Mathlib.Nat.{le-refl, mul-le-mul-right}
 use mathlib.Core.Path.{_≡_, refl, sym, ap, ap₂, _∙_}
-use mathlib.Core.Logic.{_↔_}
+use mathlib.Core.Logic.{_↔_, _⊎_, inl, inr}
 use mathlib.Core.Bool.{Bool, true, false, not, _&&_, _||_}
 use mathlib.Core.List.{List, map, List·Memᴰ}
 use mathlib.Core.Option.{Option, none, some}
@@ -19,8 +19,7 @@ use Rattle.lists.proofs.Members.{member-each, each-member, member-map, map-memb
 use Rattle.lists.proofs.Passing.{FirstFact, first-fact}
 use Rattle.job.specs.Job.{Job, slipOf, mostSlip, planLength, planCell}
 use Rattle.job.specs.Verdict.{IsAccepted, judge, ifAccepted}
-use Rattle.job.specs.declared.Verdict.{Verdict}
-use Rattle.job.specs.declared.Verdict.the-variants.{Accepted, WrongGrid, WrongBytes, WrongLimits, WrongCount, WrongEnds, SharedEnds}
+use Rattle.job.proofs.Refused.{accepts-or-not, zero-accepted, if-accepted, if-refused}
 use Rattle.routes.specs.Route.{Lawful, cellOf, routeIn}
 use Rattle.routes.specs.Check.{Place, places, wrongMove, wrongArrival, wrongAt, firstWrongPlace, placeVerdict, planVerdict, routeVerdict, routeTold}
 use Rattle.routes.specs.declared.RouteVerdict.{RouteVerdict}
@@ -185,29 +184,29 @@ plan-check-exact job plan accepted law = (
 )
 
 -- a 0 of the route check, whatever was given to it, says that the job is accepted and the routes are lawful
-refused-not-zero : (job : Job) (plan : List ℕ) (v : Verdict) → judge job ≡ v → routeTold (ifAccepted v (planVerdict job plan) (Refused v)) .number ≡ 0 → IsAccepted job × (routeTold (planVerdict job plan) .number ≡ 0)
-unfolding ifAccepted
-refused-not-zero job plan Accepted a e = (a, e)
-refused-not-zero job plan WrongGrid a e = absurd (let z : _≡_ {A = ℕ} 1 0 = e in omega arith)
-refused-not-zero job plan WrongBytes a e = absurd (let z : _≡_ {A = ℕ} 2 0 = e in omega arith)
-refused-not-zero job plan WrongLimits a e = absurd (let z : _≡_ {A = ℕ} 3 0 = e in omega arith)
-refused-not-zero job plan WrongCount a e = absurd (let z : _≡_ {A = ℕ} 4 0 = e in omega arith)
-refused-not-zero job plan (WrongEnds i) a e = absurd (let z : _≡_ {A = ℕ} 5 0 = e in omega arith)
-refused-not-zero job plan (SharedEnds i j) a e = absurd (let z : _≡_ {A = ℕ} 6 0 = e in omega arith)
+zero-is-accepted : (job : Job) (plan : List ℕ) → routeTold (routeVerdict job plan) .number ≡ 0 → IsAccepted job
+unfolding routeVerdict
+zero-is-accepted job plan e = go (accepts-or-not (judge job))
+  where
+    go : IsAccepted job ⊎ (IsAccepted job → ⊥) → IsAccepted job
+    go (inl accepted) = accepted
+    go (inr other) =
+        zero-accepted (judge job)
+        (ap (λ (v : RouteVerdict). routeTold v .number) (sym (if-refused (judge job) (planVerdict job plan) (Refused (judge job)) other)) ∙ e)
 
 long-enough : (job : Job) (plan : List ℕ) → routeTold (planVerdict job plan) .number ≡ 0 → planLength job ≤ length plan
 unfolding planVerdict
 long-enough job plan e = go (ltb (length plan) (planLength job)) refl e
   where
-    go : (b : Bool) → ltb (length plan) (planLength job) ≡ b → routeTold (elim b [ true ↦ Short | false ↦ placeVerdict (firstWrongPlace job (planCell job plan)) ]) .number ≡ 0 → planLength job ≤ length plan
+    go : (b : Bool) → ltb (length plan) (planLength job) ≡ b → routeTold (elim b [ true ↦ Short (planLength job) | false ↦ placeVerdict (firstWrongPlace job (planCell job plan)) ]) .number ≡ 0 → planLength job ≤ length plan
     go true t e = absurd (let z : _≡_ {A = ℕ} 7 0 = e in omega arith)
     go false t e = ltb-false (length plan) (planLength job) t
 
 pub zero-is-lawful : (job : Job) (plan : List ℕ) → routeTold (routeVerdict job plan) .number ≡ 0 → IsAccepted job × LawfulRoutes job plan
 unfolding routeVerdict
 zero-is-lawful job plan e =
-    let (accepted, f) = refused-not-zero job plan (judge job) refl e in
-    let long = long-enough job plan f in
+    let accepted = zero-is-accepted job plan e in
+    let long = long-enough job plan (ap (λ (v : RouteVerdict). routeTold v .number) (sym (if-accepted (judge job) (planVerdict job plan) (Refused (judge job)) accepted)) ∙ e) in
     (accepted, record { long = long; lawful = zero-says-lawful job plan accepted long e })
 
 -- 0 of both checks: the routes are lawful, and no pattern of holds brings two carriers together

@@ -2,25 +2,23 @@
 -- definition gives where its tests came out so. Assumes nothing.
 use Prim.Native.Nat.{ℕ, _+_, _-_, _*_, _≤_, _<_}
 use native.Mathlib.Omega.{arith}
-use mathlib.Core.Path.{_≡_, refl, sym, ap, subst, _∙_}
+use mathlib.Core.Path.{_≡_, refl, sym, ap, _∙_}
 use mathlib.Core.Bool.{Bool, true, false, not}
-use mathlib.Core.List.{List, [], _∷_, map}
+use mathlib.Core.List.{List, map}
 use mathlib.Core.Option.{Option, none, some}
-use lib.Dec.{eqb, ltb}
+use lib.Dec.{eqb}
 use lib.ListN.{length, getD}
-use borrow.Author.Tests.{eq-eqb, ne-eqb, ltb-false}
-use denote.Enum.Declared.{declared, tagOf}
-use types.Run.{OneOf, miss}
+use borrow.Author.Tests.{eq-eqb, ne-eqb, lt-ltb, le-ltb}
 use Rattle.lists.specs.Lists.{range, each, anyOf, firstOf}
 use Rattle.hall.specs.Moves.{mayFollow}
 use Rattle.job.specs.Job.{Job, planLength, planCell, mostDelay, mostHorizon, mostCarriers}
 use Rattle.job.specs.Team.{jobOf}
-use Rattle.job.specs.Verdict.{judge, judgeWith, ifAccepted}
+use Rattle.job.specs.Verdict.{judge, judgeWith}
 use Rattle.job.specs.declared.Team.{Team}
 use Rattle.job.specs.declared.Verdict.{Verdict}
-use Rattle.job.specs.declared.Verdict.the-variants.{Accepted, WrongGrid, WrongBytes, WrongLimits, WrongCount, WrongEnds, SharedEnds}
-use Rattle.job.proofs.Verdict.{enum}
+use Rattle.job.specs.declared.Verdict.the-variants.{Accepted}
 use Rattle.job.proofs.Accepted.{accepted-facts}
+use Rattle.job.proofs.Refused.{if-accepted, if-refused, Refusal, refusal-refuses}
 use Rattle.routes.specs.Check.{Place, places, wrongMove, wrongArrival, wrongAt, firstWrongPlace, placeVerdict, planVerdict, routeVerdict}
 use Rattle.routes.specs.declared.RouteVerdict.the-variants.{Lawful, Refused, Short, Wrong}
 use Rattle.clashes.specs.Check.{planClash, compared, meetingVerdict}
@@ -82,19 +80,19 @@ pub places-from : (job : Job) (plan : List ℕ) → firstWrongPlace job (planCel
 unfolding firstWrongPlace places placesOf wrongPlace
 places-from job plan = let e : job .count - 0 ≡ job .count = omega arith in rw e
 
--- ---- the checks of an accepted job; s is what the test of the plan's length said
+-- ---- the checks of an accepted job; needed is the length that the plan's is compared with
 
-module _ (job : Job) (plan : List ℕ) (s : Bool) (told : s ≡ ltb (length plan) (planLength job)) where
-  pub plan-short : s ≡ true → Short ≡ planVerdict job plan
+module _ (job : Job) (plan : List ℕ) (needed : ℕ) (told : needed ≡ planLength job) where
+  pub plan-short : length plan < needed → Short needed ≡ planVerdict job plan
   unfolding planVerdict
-  plan-short e = rw (planVerdict, ← told, e)
+  plan-short less = rw (told, planVerdict, lt-ltb (length plan) (planLength job) (omega arith))
 
-  pub plan-whole : s ≡ false → planLength job ≤ length plan
-  plan-whole e = ltb-false (length plan) (planLength job) (sym told ∙ e)
+  pub plan-whole : needed ≤ length plan → planLength job ≤ length plan
+  plan-whole long = omega arith
 
-  pub plan-walked : s ≡ false → placeVerdict (firstWrongPlace job (planCell job plan)) ≡ planVerdict job plan
+  pub plan-walked : needed ≤ length plan → placeVerdict (firstWrongPlace job (planCell job plan)) ≡ planVerdict job plan
   unfolding planVerdict
-  plan-walked e = rw (planVerdict, ← told, e)
+  plan-walked long = rw (planVerdict, le-ltb (length plan) (planLength job) (plan-whole long))
 
 module _ (f : Found) (o : Option Place) (told : placeFound f ≡ o) where
   pub found-nowhere : f ≡ Nowhere → o ≡ none
@@ -113,40 +111,19 @@ pub some-wrong : (o : Option Place) (i t : ℕ) → o ≡ some (placeOf i t) →
 unfolding placeVerdict
 some-wrong o i t e = rw e
 
-module _ (plan : List ℕ) (count k h : ℕ) (s : Bool) (told : s ≡ ltb (length plan) (count * (h + 1))) where
-  pub compared-short : s ≡ true → ShortPlan ≡ comparedAt plan count k h
+module _ (plan : List ℕ) (count k h needed : ℕ) (told : needed ≡ count * (h + 1)) where
+  pub compared-short : length plan < needed → ShortPlan needed ≡ comparedAt plan count k h
   unfolding comparedAt
-  compared-short e = rw (comparedAt, ← told, e)
+  compared-short less = rw (told, comparedAt, lt-ltb (length plan) (count * (h + 1)) (omega arith))
 
-  pub compared-whole : count ≤ mostCarriers → k ≤ mostDelay → h ≤ mostHorizon → s ≡ false → Whole plan count k h
-  compared-whole few slow early e = record { few = few; slow = slow; short = early; whole = ltb-false (length plan) (count * (h + 1)) (sym told ∙ e) }
+  pub compared-whole : count ≤ mostCarriers → k ≤ mostDelay → h ≤ mostHorizon → needed ≤ length plan → Whole plan count k h
+  compared-whole few slow early long = record { few = few; slow = slow; short = early; whole = omega arith }
 
-  pub compared-clash : s ≡ false → (c : Clash) → c ≡ firstClash plan count k h → Compared c ≡ comparedAt plan count k h
+  pub compared-clash : needed ≤ length plan → (c : Clash) → c ≡ firstClash plan count k h → Compared c ≡ comparedAt plan count k h
   unfolding comparedAt
-  compared-clash e c found = rw (comparedAt, ← told, e, found)
+  compared-clash long c found = rw (comparedAt, le-ltb (length plan) (count * (h + 1)) (omega arith), found)
 
--- ---- the checks; v is what checks 1 to 6 said
-
-goes-on : {A : Type 0} (v : Verdict) (go stop : A) → v ≡ Accepted → go ≡ ifAccepted v go stop
-unfolding ifAccepted
-goes-on v go stop e = rw e
-
-stops : {A : Type 0} (v : Verdict) (go stop : A) → (v ≡ Accepted → ⊥) → stop ≡ ifAccepted v go stop
-unfolding ifAccepted
-stops Accepted go stop n = absurd (n refl)
-stops WrongGrid go stop n = refl
-stops WrongBytes go stop n = refl
-stops WrongLimits go stop n = refl
-stops WrongCount go stop n = refl
-stops (WrongEnds i) go stop n = refl
-stops (SharedEnds i j) go stop n = refl
-
--- the verdicts but `Accepted`, as a `match` reads them
-abbrev refusals : List ℕ
-refusals = 1 ∷ 2 ∷ 3 ∷ 4 ∷ 5 ∷ 6 ∷ []
-
-not-accepted : (v : Verdict) → OneOf refusals (tagOf (declared enum) v) → v ≡ Accepted → ⊥
-not-accepted v one e = miss refusals 0 tt (subst (λ (w : Verdict). OneOf refusals (tagOf (declared enum) w)) e one)
+-- ---- the checks; v is what checks 1 to 6 and 16 said
 
 pub accepted-limits : (job : Job) (v : Verdict) → v ≡ judgeWith false job → v ≡ Accepted → Limits job × (job .delay ≤ mostDelay)
 accepted-limits job v told e =
@@ -156,19 +133,19 @@ accepted-limits job v told e =
 module _ (job : Job) (plan : List ℕ) (v : Verdict) (told : v ≡ judgeWith false job) where
   pub routes-accepted : v ≡ Accepted → planVerdict job plan ≡ routeVerdict job plan
   unfolding routeVerdict judge
-  routes-accepted e = goes-on (judgeWith false job) (planVerdict job plan) (Refused (judgeWith false job)) (sym told ∙ e)
+  routes-accepted e = sym (if-accepted (judgeWith false job) (planVerdict job plan) (Refused (judgeWith false job)) (sym told ∙ e))
 
-  pub routes-refused : OneOf refusals (tagOf (declared enum) v) → Refused v ≡ routeVerdict job plan
+  pub routes-refused : Refusal v → Refused v ≡ routeVerdict job plan
   unfolding routeVerdict judge
-  routes-refused one = rw (← told) (stops v (planVerdict job plan) (Refused v) (not-accepted v one))
+  routes-refused tag = rw (← told) (sym (if-refused v (planVerdict job plan) (Refused v) (refusal-refuses v tag)))
 
   pub meetings-accepted : v ≡ Accepted → comparedAt plan (job .count) (job .delay) (job .horizon) ≡ meetingVerdict job plan
   unfolding meetingVerdict judge comparedAt compared planClash
-  meetings-accepted e = goes-on (judgeWith false job) (compared job plan) (RefusedJob (judgeWith false job)) (sym told ∙ e)
+  meetings-accepted e = sym (if-accepted (judgeWith false job) (compared job plan) (RefusedJob (judgeWith false job)) (sym told ∙ e))
 
-  pub meetings-refused : OneOf refusals (tagOf (declared enum) v) → RefusedJob v ≡ meetingVerdict job plan
+  pub meetings-refused : Refusal v → RefusedJob v ≡ meetingVerdict job plan
   unfolding meetingVerdict judge
-  meetings-refused one = rw (← told) (stops v (compared job plan) (RefusedJob v) (not-accepted v one))
+  meetings-refused tag = rw (← told) (sym (if-refused v (compared job plan) (RefusedJob v) (refusal-refuses v tag)))
 
 -- the route check does not look at k
 pub routes-any-delay : (width height : ℕ) (bytes : List ℕ) (team : Team) (k h : ℕ) (plan : List ℕ) → planVerdict (jobOf width height bytes team 0 h) plan ≡ planVerdict (jobOf width height bytes team k h) plan

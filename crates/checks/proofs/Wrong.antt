@@ -1,18 +1,24 @@
--- Wrong answers of the route check besides document 01's broken versions, each refuted at a small plan: antt computes what the contract
+-- Wrong answers of the two checks besides document 01's broken versions, each refuted at a small job: antt computes what the contract
 -- says there. Assumes nothing.
 use Prim.Native.Nat.{ℕ}
 use native.Mathlib.Omega.{arith}
 use mathlib.Core.Path.{_≡_, ap}
-use mathlib.Core.List.{[], _∷_}
+use mathlib.Core.List.{List, [], _∷_}
 use Rattle.lists.specs.Lists.{range, only, keep, anyOf, firstOf, each, refuseIf}
 use Rattle.hall.specs.Hall.{wrongSide, wrongGrid, wrongByte, wrongBytes, isOpen}
 use Rattle.hall.specs.Moves.{onGrid, cellAt, landing, reachFrom, reach, mayFollow}
 use Rattle.job.specs.Job.{Job, wrongLimits, wrongCount, wrongEnds, firstWrong, share, pairs, firstShared}
 use Rattle.job.specs.Team.{jobOf}
 use Rattle.job.specs.Verdict.{endsVerdict, sharedVerdict, judgeWith, judge, ifAccepted}
+use Rattle.job.specs.declared.Verdict.the-variants.{SharedStart, SharedGoal}
+use Rattle.job.proofs.Wrong.{three, eight}
 use Rattle.routes.specs.Check.{wrongMove, wrongArrival, wrongAt, places, firstWrongPlace, placeVerdict, planVerdict, routeVerdict, routeTold}
 use Rattle.routes.specs.declared.RouteVerdict.{RouteVerdict}
-use Rattle.routes.specs.declared.RouteVerdict.the-variants.{Lawful, Wrong}
+use Rattle.routes.specs.declared.RouteVerdict.the-variants.{Lawful, Refused, Short, Wrong}
+use Rattle.clashes.specs.Check.{compared, meetingVerdict, meetingTold}
+use Rattle.clashes.specs.declared.MeetingVerdict.{MeetingVerdict}
+use Rattle.clashes.specs.declared.MeetingVerdict.the-variants.{Refused as RefusedJob, Short as ShortPlan}
+use Rattle.checks.proofs.Broken.{crossing}
 
 -- three cells in a row, one carrier, 0→2, k 0 and H 2
 abbrev aisle : Job
@@ -20,6 +26,8 @@ aisle = jobOf 3 1 (46 ∷ 46 ∷ 46 ∷ []) (record { starts = 0 ∷ 0 ∷ 0 ∷
 
 abbrev number : RouteVerdict → ℕ
 number v = routeTold v .number
+
+-- ---- check_routes
 
 -- a plan that begins on the goal: the start not looked at
 pub start-not-looked-at : Lawful ≡ routeVerdict aisle (2 ∷ 2 ∷ 2 ∷ []) → ⊥
@@ -45,3 +53,56 @@ goal-before-the-last-step e = let z : _≡_ {A = ℕ} 1 2 = ap (λ (v : RouteVer
 pub length-one-short : Lawful ≡ routeVerdict aisle (0 ∷ 1 ∷ []) → ⊥
 unfolding range only keep anyOf firstOf each wrongSide wrongGrid wrongByte wrongBytes isOpen onGrid cellAt landing reachFrom reach mayFollow wrongLimits wrongCount wrongEnds firstWrong share pairs firstShared refuseIf endsVerdict sharedVerdict judgeWith judge ifAccepted wrongMove wrongArrival wrongAt places firstWrongPlace placeVerdict planVerdict routeVerdict
 length-one-short e = let z : _≡_ {A = ℕ} 0 7 = ap number e in omega arith
+
+-- ---- P1, in both checks
+
+abbrev meetingNumber : MeetingVerdict → ℕ
+meetingNumber v = meetingTold v .number
+
+-- 7 at the job of the broken checks, two routes of two cells: m × H told for m × (H + 1)
+pub needed-as-m-times-H-for-routes : Short 2 ≡ routeVerdict crossing [] → ⊥
+unfolding range anyOf firstOf each wrongSide wrongGrid wrongByte wrongBytes isOpen wrongLimits wrongCount wrongEnds firstWrong share pairs firstShared refuseIf endsVerdict sharedVerdict judgeWith judge ifAccepted planVerdict routeVerdict
+needed-as-m-times-H-for-routes e = let z : _≡_ {A = ℕ} 2 4 = ap (λ (v : RouteVerdict). routeTold v .needed) e in omega arith
+
+pub needed-as-m-times-H-for-meetings : ShortPlan 2 ≡ meetingVerdict crossing [] → ⊥
+unfolding range anyOf firstOf each wrongSide wrongGrid wrongByte wrongBytes isOpen wrongLimits wrongCount wrongEnds firstWrong share pairs firstShared refuseIf endsVerdict sharedVerdict judgeWith judge ifAccepted compared meetingVerdict
+needed-as-m-times-H-for-meetings e = let z : _≡_ {A = ℕ} 2 4 = ap (λ (v : MeetingVerdict). meetingTold v .needed) e in omega arith
+
+-- ---- the jobs of crate job's wrong answers: three carriers with one goal, and P1's own, whose carriers 0 and 1 share a goal and 6
+-- ---- and 7 a start
+
+-- the pair of the greatest j, whatever the plan
+pub greatest-j-told-for-routes : (plan : List ℕ) → Refused (SharedGoal 0 2) ≡ routeVerdict three plan → ⊥
+unfolding range anyOf firstOf each wrongSide wrongGrid wrongByte wrongBytes isOpen wrongLimits wrongCount wrongEnds firstWrong share pairs firstShared refuseIf endsVerdict sharedVerdict judgeWith judge ifAccepted routeVerdict
+greatest-j-told-for-routes plan e = let z : _≡_ {A = ℕ} 2 1 = ap (λ (v : RouteVerdict). routeTold v .other) e in omega arith
+
+pub greatest-j-told-for-meetings : (plan : List ℕ) → RefusedJob (SharedGoal 0 2) ≡ meetingVerdict three plan → ⊥
+unfolding range anyOf firstOf each wrongSide wrongGrid wrongByte wrongBytes isOpen wrongLimits wrongCount wrongEnds firstWrong share pairs firstShared refuseIf endsVerdict sharedVerdict judgeWith judge ifAccepted meetingVerdict
+greatest-j-told-for-meetings plan e = let z : _≡_ {A = ℕ} 2 1 = ap (λ (v : MeetingVerdict). meetingTold v .other) e in omega arith
+
+-- document 01's 6 for a shared goal
+pub shared-goal-refused-with-6-for-routes : (plan : List ℕ) → Refused (SharedStart 0 1) ≡ routeVerdict three plan → ⊥
+unfolding range anyOf firstOf each wrongSide wrongGrid wrongByte wrongBytes isOpen wrongLimits wrongCount wrongEnds firstWrong share pairs firstShared refuseIf endsVerdict sharedVerdict judgeWith judge ifAccepted routeVerdict
+shared-goal-refused-with-6-for-routes plan e = let z : _≡_ {A = ℕ} 6 16 = ap number e in omega arith
+
+pub shared-goal-refused-with-6-for-meetings : (plan : List ℕ) → RefusedJob (SharedStart 0 1) ≡ meetingVerdict three plan → ⊥
+unfolding range anyOf firstOf each wrongSide wrongGrid wrongByte wrongBytes isOpen wrongLimits wrongCount wrongEnds firstWrong share pairs firstShared refuseIf endsVerdict sharedVerdict judgeWith judge ifAccepted meetingVerdict
+shared-goal-refused-with-6-for-meetings plan e = let z : _≡_ {A = ℕ} 6 16 = ap meetingNumber e in omega arith
+
+-- 7 before 16: the plan is empty
+pub seven-given-before-16-for-routes : (needed : ℕ) → Short needed ≡ routeVerdict three [] → ⊥
+unfolding range anyOf firstOf each wrongSide wrongGrid wrongByte wrongBytes isOpen wrongLimits wrongCount wrongEnds firstWrong share pairs firstShared refuseIf endsVerdict sharedVerdict judgeWith judge ifAccepted routeVerdict
+seven-given-before-16-for-routes needed e = let z : _≡_ {A = ℕ} 7 16 = ap number e in omega arith
+
+pub seven-given-before-16-for-meetings : (needed : ℕ) → ShortPlan needed ≡ meetingVerdict three [] → ⊥
+unfolding range anyOf firstOf each wrongSide wrongGrid wrongByte wrongBytes isOpen wrongLimits wrongCount wrongEnds firstWrong share pairs firstShared refuseIf endsVerdict sharedVerdict judgeWith judge ifAccepted meetingVerdict
+seven-given-before-16-for-meetings needed e = let z : _≡_ {A = ℕ} 7 16 = ap meetingNumber e in omega arith
+
+-- 16 before 6, whatever the plan
+pub goal-told-before-start-for-routes : (plan : List ℕ) → Refused (SharedGoal 0 1) ≡ routeVerdict eight plan → ⊥
+unfolding range anyOf firstOf each wrongSide wrongGrid wrongByte wrongBytes isOpen wrongLimits wrongCount wrongEnds firstWrong share pairs firstShared refuseIf endsVerdict sharedVerdict judgeWith judge ifAccepted routeVerdict
+goal-told-before-start-for-routes plan e = let z : _≡_ {A = ℕ} 16 6 = ap number e in omega arith
+
+pub goal-told-before-start-for-meetings : (plan : List ℕ) → RefusedJob (SharedGoal 0 1) ≡ meetingVerdict eight plan → ⊥
+unfolding range anyOf firstOf each wrongSide wrongGrid wrongByte wrongBytes isOpen wrongLimits wrongCount wrongEnds firstWrong share pairs firstShared refuseIf endsVerdict sharedVerdict judgeWith judge ifAccepted meetingVerdict
+goal-told-before-start-for-meetings plan e = let z : _≡_ {A = ℕ} 16 6 = ap meetingNumber e in omega arith

@@ -46,4 +46,4 @@ placeFound (PlaceAt i t) = some (placeOf i t)
 
 -- the meeting check of an accepted job, of the numbers it looks at
 unfoldable pub comparedAt : List ℕ → ℕ → ℕ → ℕ → MeetingVerdict
-comparedAt plan count k h = elim (ltb (length plan) (count * (h + 1))) [ true ↦ Short | false ↦ Compared (firstClash plan count k h) ]
+comparedAt plan count k h = elim (ltb (length plan) (count * (h + 1))) [ true ↦ Short (count * (h + 1)) | false ↦ Compared (firstClash plan count k h) ]

@@ -1,13 +1,12 @@
 // The two plan checks of document 01: the route check (21) and the meeting check (22). Passing both is demand 3's plan check.
 // 'Both begin with checks 1 to 6 (no N there), then 7 if the plan is shorter than m × (H + 1); bytes after that length are not
-// read.' They write nothing.
+// read.' P1: '16 shared goal, directly after 6', and 7 tells the length that the plan needed. They write nothing.
 use clashes::MeetingVerdict;
 use job::Team;
 use job::Verdict;
 use routes::RouteVerdict;
 ghost use Prim.Native.Nat.{_+_, _*_, _≤_, _<_};
 ghost use mathlib.Core.Path.{_≡_};
-ghost use lib.Dec.{ltb};
 ghost use lib.ListN.{length, getD};
 ghost use Rattle.lists.specs.Lists.{firstOf};
 ghost use Rattle.job.specs.Job.{planCell, mostDelay, mostHorizon, mostCarriers};
@@ -16,12 +15,12 @@ ghost use Rattle.routes.specs.Check.{wrongArrival, wrongAt, firstWrongPlace, pl
 ghost use Rattle.clashes.specs.Check.{meetingVerdict};
 ghost use Rattle.checks.specs.Walk.{Limits, Ready, placeFound, wrongPlace, placesOf, comparedAt};
 
-// Check 7: is the plan shorter than m × (H + 1)?
-fn short(count: usize, h: usize, plan: &[u8]) -> bool
+// The length that check 7 asks of a plan: m × (H + 1).
+fn needed_length(count: usize, h: usize) -> usize
     requires { ⌜ (count ≤ mostCarriers) × (h ≤ mostHorizon) ⌝ }
-    ensures { λ r. ⌜ r ≡ ltb (length (now (plan .entry))) (count * (h + 1)) ⌝ }
+    ensures { λ r. ⌜ r ≡ count * (h + 1) ⌝ }
 {
-    plan.len() < count * (h + 1)
+    count * (h + 1)
 }
 
 // The byte of the plan at a place, as a cell.
@@ -142,8 +141,9 @@ fn check_lawful(
     requires { ⌜ Limits (jobOf width height (now hall) team 0 h) ⌝ }
     ensures { λ r. ⌜ r ≡ planVerdict (jobOf width height (now (hall .entry)) team 0 h) (now (plan .entry)) ⌝ }
 {
-    if short(team.count, h, plan) {
-        return RouteVerdict::Short;
+    let needed = needed_length(team.count, h);
+    if plan.len() < needed {
+        return RouteVerdict::Short { needed };
     }
     let found = first_wrong_place(hall, width, height, team, h, plan);
     match found {
@@ -177,8 +177,9 @@ fn check_apart(count: usize, k: usize, h: usize, plan: &[u8]) -> MeetingVerdict
     requires { ⌜ (count ≤ mostCarriers) × (k ≤ mostDelay) × (h ≤ mostHorizon) ⌝ }
     ensures { λ r. ⌜ r ≡ comparedAt (now (plan .entry)) count k h ⌝ }
 {
-    if short(count, h, plan) {
-        return MeetingVerdict::Short;
+    let needed = needed_length(count, h);
+    if plan.len() < needed {
+        return MeetingVerdict::Short { needed };
     }
     MeetingVerdict::Compared(clashes::first_clash(plan, count, k, h))
 }

@@ -25,7 +25,7 @@ pub enum Clash {
 // What the meeting check says; the clash it found stands in it.
 pub enum MeetingVerdict {
     Refused(Verdict),
-    Short,
+    Short { needed: usize },
     Compared(Clash),
 }
 

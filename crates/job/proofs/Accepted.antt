@@ -4,13 +4,12 @@ use Prim.Native.Nat.{ℕ, _+_, _*_, _≤_, _<_}
 use native.Mathlib.Nat.{mul-le-mul}
 use native.Mathlib.Omega.{arith}
 use mathlib.Core.Path.{_≡_}
-use mathlib.Core.Logic.{_≢_, inl, inr}
+use mathlib.Core.Logic.{_≢_}
 use mathlib.Core.Bool.{Bool, false}
 use lib.Dec.{T}
 use lib.ListN.{length}
 use Rattle.hall.specs.Hall.{isOpen}
 use Rattle.job.specs.Job.{Job}
-use Rattle.job.specs.Due.{Shares}
 use Rattle.job.specs.Verdict.{judgeWith}
 use Rattle.job.specs.declared.Verdict.the-variants.{Accepted}
 use Rattle.job.proofs.Due.{open-exact, accepted-right}
@@ -32,7 +31,6 @@ pub record Facts (wrongN : Bool) (job : Job) : Type 0 where
   pub goalsApart : (i j : ℕ) → i < j → j < job .count → job .goalOf i ≢ job .goalOf j
 
 pub accepted-facts : (wrongN : Bool) (job : Job) → judgeWith wrongN job ≡ Accepted → Facts wrongN job
-unfolding Shares
 accepted-facts wrongN job e =
     let (r, n) = accepted-right wrongN (wrongN ≡ false) (λ f. f, λ f. f) job .0 e in
     record {
@@ -48,8 +46,8 @@ accepted-facts wrongN job e =
       countMost = r .count .most;
       startOpen = λ i l. open-exact job (job .startOf i) .1 (r .ends i l .start);
       goalOpen = λ i l. open-exact job (job .goalOf i) .1 (r .ends i l .goal);
-      startsApart = λ i j l h same. r .apart i j l h (inl same);
-      goalsApart = λ i j l h same. r .apart i j l h (inr same);
+      startsApart = r .starts;
+      goalsApart = r .goals;
     }
 
 -- the bytes of a plan, m × (H + 1)

@@ -1,5 +1,5 @@
--- Rows 0 to 6 of document 01's table are what `judgeWith` gives: each test fails exactly where its fact holds, the checks come in the
--- order of their numbers, and the first that is found is the first in the order told. Assumes nothing.
+-- Rows 0 to 6 of document 01's table and P1's row 16 are what `judgeWith` gives: each test fails exactly where its fact holds, the
+-- checks come in their order, and the first that is found is the first in the order told. Assumes nothing.
 use Prim.Native.Nat.{ℕ, suc, _-_, _≤_, _<_}
 use native.Mathlib.Omega.{arith}
 use mathlib.Core.Path.{_≡_, refl, ap}
@@ -11,7 +11,7 @@ use lib.Dec.{T, eqb, ltb}
 use lib.ListN.{length, getD}
 use borrow.Author.Tests.{eqb-true, eqb-false, ltb-true, ltb-false, lt-ltb, le-ltb, eq-eqb, ne-eqb, not-false}
 use Rattle.lists.specs.Lists.{range, anyOf, Every, refuseIf}
-use Rattle.lists.proofs.Tests.{is-true, is-false, of-true, of-false, not-both, and-both, both-and, or-fails, both-fail, not-fails, or-either, or-left, or-right}
+use Rattle.lists.proofs.Tests.{is-true, is-false, of-true, of-false, not-both, and-both, both-and, or-fails, both-fail, not-fails, or-either}
 use Rattle.lists.proofs.Every.{every-member, every-map, every-each, every-range, every-below}
 use Rattle.lists.proofs.Orders.{Ordered, ordered-range, ordered-rows, LeastFact, first-least}
 use Rattle.lists.proofs.Members.{member-range, member-map, member-each}
@@ -19,11 +19,13 @@ use Rattle.lists.proofs.Passing.{fails-at, at-fails, FirstFact, first-fact}
 use Rattle.hall.specs.Hall.{size, wrongSide, wrongGrid, wrongByte, wrongBytes, isOpen}
 use Rattle.hall.proofs.RightHall.{grid-right, bytes-right}
 use Rattle.job.specs.Job.{Job, Pair, wrongLimits, wrongCapacity, wrongCount, wrongEnds, firstWrong, share, pairs, firstShared}
-use Rattle.job.specs.Due.{RightGrid, RightBytes, RightLimits, RightCapacity, RightCount, OpenCell, RightEnds, Shares, RightJob, Due, due-0, due-1, due-2, due-3, due-4, due-5, due-6}
+use Rattle.job.specs.Due.{RightGrid, RightBytes, RightLimits, RightCapacity, RightCount, OpenCell, RightEnds, NoneShare, FirstShare, RightJob, Due, due-0, due-1, due-2, due-3, due-4, due-5, due-6, due-16}
+use Rattle.job.specs.Found.{sharedBy}
 use Rattle.job.specs.Verdict.{verdictTold, endsVerdict, sharedVerdict, judgeWith, judge, IsAccepted}
 use Rattle.job.specs.declared.Told.{Told}
 use Rattle.job.specs.declared.Verdict.{Verdict}
-use Rattle.job.specs.declared.Verdict.the-variants.{Accepted, WrongGrid, WrongBytes, WrongLimits, WrongCount, WrongEnds, SharedEnds}
+use Rattle.job.specs.declared.Verdict.the-variants.{Accepted, WrongGrid, WrongBytes, WrongLimits, WrongCount, SharedStart, SharedGoal}
+use Rattle.job.proofs.Refused.{zero-accepted}
 
 -- ---- each test fails exactly where its fact holds
 
@@ -120,20 +122,6 @@ ends-exact job i =
       λ r. both-fail (not s) (not g) (not-fails s (open-exact job (job .startOf i) .1 (r .start))) (not-fails g (open-exact job (job .goalOf i) .1 (r .goal))),
     )
 
-shares-exact : (job : Job) (p : Pair) → T (share job p) ↔ Shares job (p .one) (p .two)
-unfolding share Shares
-shares-exact job p =
-    let s : Bool = eqb (job .startOf (p .one)) (job .startOf (p .two)) in
-    let g : Bool = eqb (job .goalOf (p .one)) (job .goalOf (p .two)) in (λ t. there (or-either s g t), back)
-  where
-    there : T (eqb (job .startOf (p .one)) (job .startOf (p .two))) ⊎ T (eqb (job .goalOf (p .one)) (job .goalOf (p .two))) → (job .startOf (p .one) ≡ job .startOf (p .two)) ⊎ (job .goalOf (p .one) ≡ job .goalOf (p .two))
-    there (inl t) = inl (eqb-true (job .startOf (p .one)) (job .startOf (p .two)) (is-true t))
-    there (inr t) = inr (eqb-true (job .goalOf (p .one)) (job .goalOf (p .two)) (is-true t))
-
-    back : (job .startOf (p .one) ≡ job .startOf (p .two)) ⊎ (job .goalOf (p .one) ≡ job .goalOf (p .two)) → T (eqb (job .startOf (p .one)) (job .startOf (p .two)) || eqb (job .goalOf (p .one)) (job .goalOf (p .two)))
-    back (inl e) = or-left (eqb (job .startOf (p .one)) (job .startOf (p .two))) (eqb (job .goalOf (p .one)) (job .goalOf (p .two))) (of-true (eq-eqb (job .startOf (p .one)) (job .startOf (p .two)) e))
-    back (inr e) = or-right (eqb (job .startOf (p .one)) (job .startOf (p .two))) (eqb (job .goalOf (p .one)) (job .goalOf (p .two))) (of-true (eq-eqb (job .goalOf (p .one)) (job .goalOf (p .two)) e))
-
 -- ---- the pairs, in their order
 
 abbrev pair : ℕ → ℕ → Pair
@@ -164,6 +152,58 @@ pairs-are m =
     (every-below (λ i. Every (λ p. (p .one < p .two) × (p .two < m)) (row m i)) m
     (λ i l. every-map (λ p. (p .one < p .two) × (p .two < m)) (pair i) (range (suc i) (m - suc i)) (every-range (λ j. (i < j) × (j < m)) (suc i) (m - suc i) (λ j low high. (omega arith, omega arith)))))
 
+-- ---- the first two that share
+
+module _ (endOf : ℕ → ℕ) (m : ℕ) where
+  share-exact : (p : Pair) → T (share endOf p) ↔ (endOf (p .one) ≡ endOf (p .two))
+  unfolding share
+  share-exact p = (λ t. eqb-true (endOf (p .one)) (endOf (p .two)) (is-true t), λ e. of-true (eq-eqb (endOf (p .one)) (endOf (p .two)) e))
+
+  -- nobody, or the first pair
+  unfoldable ShareFact : Option Pair → Type 0
+  ShareFact none = NoneShare endOf m
+  ShareFact (some p) = FirstShare endOf m (p .one) (p .two)
+
+  share-fact : (o : Option Pair) → FirstFact (share endOf) (λ p. (p .one < p .two) × (p .two < m)) (pairs m) o → LeastFact (share endOf) NotAfter (pairs m) o → ShareFact o
+  unfolding ShareFact FirstFact LeastFact
+  share-fact none fact least = λ i j l h e. every-member (λ p. T (share endOf p) → ⊥) (pairs m) fact (pairs-have m i j l h) (share-exact (pair i j) .1 e)
+  share-fact (some p) fact least =
+      record {
+        apart = fact .1 .0;
+        inside = fact .1 .1;
+        shared = share-exact p .0 (fact .0);
+        least = λ a b l h e. every-member (λ q. T (share endOf q) → NotAfter p q) (pairs m) least (pairs-have m a b l h) (share-exact (pair a b) .1 e);
+      }
+
+  first-share : ShareFact (firstShared endOf m)
+  unfolding firstShared
+  first-share =
+      share-fact (firstShared endOf m)
+      (first-fact (share endOf) (λ p. (p .one < p .two) × (p .two < m)) (pairs m) (pairs-are m))
+      (first-least (share endOf) NotAfter (λ p. (omega arith, λ e. omega arith)) (pairs m) (pairs-ordered m))
+
+-- ---- what 6 and 16 say, whoever gives them
+
+pub due-six : (job : Job) (N : Type 0) (told : Told) → Due job N told → told .number ≡ 6 → FirstShare (job .startOf) (job .count) (told .carrier) (told .other)
+due-six job N told (due-1 w) e = absurd (omega arith)
+due-six job N told (due-2 g w) e = absurd (omega arith)
+due-six job N told (due-3 g b w) e = absurd (omega arith)
+due-six job N told (due-4 g b l w) e = absurd (omega arith)
+due-six job N told (due-5 g b l c i h w first) e = absurd (omega arith)
+due-six job N told (due-6 g b l c ends i j first) e = first
+due-six job N told (due-16 g b l c ends starts i j first) e = absurd (omega arith)
+due-six job N told (due-0 r n) e = absurd (omega arith)
+
+pub due-sixteen : (job : Job) (N : Type 0) (told : Told) → Due job N told → told .number ≡ 16 → NoneShare (job .startOf) (job .count) × FirstShare (job .goalOf) (job .count) (told .carrier) (told .other)
+due-sixteen job N told (due-1 w) e = absurd (omega arith)
+due-sixteen job N told (due-2 g w) e = absurd (omega arith)
+due-sixteen job N told (due-3 g b w) e = absurd (omega arith)
+due-sixteen job N told (due-4 g b l w) e = absurd (omega arith)
+due-sixteen job N told (due-5 g b l c i h w first) e = absurd (omega arith)
+due-sixteen job N told (due-6 g b l c ends i j first) e = absurd (omega arith)
+due-sixteen job N told (due-16 g b l c ends starts i j first) e = (starts, first)
+due-sixteen job N told (due-0 r n) e = absurd (omega arith)
+
 -- ---- the rows, in the order of their numbers
 
 module _ (wrongN : Bool) (N : Type 0) (exact : (wrongN ≡ false) ↔ N) (job : Job) where
@@ -176,38 +216,43 @@ module _ (wrongN : Bool) (N : Type 0) (exact : (wrongN ≡ false) ↔ N) (job : 
   abbrev AllEnds : Type 0
   AllEnds = (i : ℕ) → i < job .count → RightEnds job i
 
-  shared-due : RightGrid job → RightBytes job → RightLimits job × N → RightCount job → AllEnds → (o : Option Pair)
-      → FirstFact (share job) (λ p. (p .one < p .two) × (p .two < job .count)) (pairs (job .count)) o → LeastFact (share job) NotAfter (pairs (job .count)) o → Due job N (verdictTold (sharedVerdict o))
-  unfolding sharedVerdict FirstFact LeastFact
-  shared-due grid bytes limits count ends none fact least =
-      due-0 (record {
-        grid = grid;
-        bytes = bytes;
-        limits = limits .0;
-        count = count;
-        ends = ends;
-        apart = λ i j l h s. every-member (λ p. T (share job p) → ⊥) (pairs (job .count)) fact (pairs-have (job .count) i j l h) (shares-exact job (pair i j) .1 s);
-      }) (limits .1)
-  shared-due grid bytes limits count ends (some p) fact least =
-      due-6 grid bytes limits count ends (p .one) (p .two) (fact .1 .0) (fact .1 .1) (shares-exact job p .0 (fact .0))
-      (λ a b l h s. every-member (λ q. T (share job q) → NotAfter p q) (pairs (job .count)) least (pairs-have (job .count) a b l h) (shares-exact job (pair a b) .1 s))
+  -- what is right before 6 and 16 are asked
+  pub record Before : Type 0 where
+    pub grid : RightGrid job
+    pub bytes : RightBytes job
+    pub limits : RightLimits job × N
+    pub count : RightCount job
+    pub ends : AllEnds
+
+  goals-due : Before → NoneShare (job .startOf) (job .count) → (o : Option Pair) → ShareFact (job .goalOf) (job .count) o → Due job N (verdictTold (sharedVerdict (λ i j. SharedGoal i j) o Accepted))
+  unfolding sharedVerdict ShareFact
+  goals-due r starts none fact = due-0 (record { grid = r .grid; bytes = r .bytes; limits = r .limits .0; count = r .count; ends = r .ends; starts = starts; goals = fact }) (r .limits .1)
+  goals-due r starts (some p) fact = due-16 (r .grid) (r .bytes) (r .limits) (r .count) (r .ends) starts (p .one) (p .two) fact
+
+  shared-due : Before → (o : Option Pair) → ShareFact (job .startOf) (job .count) o
+      → Due job N (verdictTold (sharedVerdict (λ i j. SharedStart i j) o (sharedVerdict (λ i j. SharedGoal i j) (firstShared (job .goalOf) (job .count)) Accepted)))
+  unfolding sharedVerdict ShareFact
+  shared-due r none fact = goals-due r fact (firstShared (job .goalOf) (job .count)) (first-share (job .goalOf) (job .count))
+  shared-due r (some p) fact = due-6 (r .grid) (r .bytes) (r .limits) (r .count) (r .ends) (p .one) (p .two) fact
 
   ends-due : RightGrid job → RightBytes job → RightLimits job × N → RightCount job → (o : Option ℕ)
-      → FirstFact (wrongEnds job) (λ i. i < job .count) (range 0 (job .count)) o → LeastFact (wrongEnds job) (λ i j. i ≤ j) (range 0 (job .count)) o → Due job N (verdictTold (endsVerdict o (sharedVerdict (firstShared job))))
-  unfolding endsVerdict firstShared FirstFact LeastFact
+      → FirstFact (wrongEnds job) (λ i. i < job .count) (range 0 (job .count)) o → LeastFact (wrongEnds job) (λ i j. i ≤ j) (range 0 (job .count)) o → Due job N (verdictTold (endsVerdict o (sharedBy (job .startOf) (job .goalOf) (job .count))))
+  unfolding endsVerdict FirstFact LeastFact
   ends-due grid bytes limits count none fact least =
-      shared-due grid bytes limits count
-      (λ i l. ends-exact job i .0 (is-false (every-member (λ i. T (wrongEnds job i) → ⊥) (range 0 (job .count)) fact (member-range {x = i} 0 (job .count) (omega arith) (omega arith)))))
-      (firstShared job)
-      (first-fact (share job) (λ p. (p .one < p .two) × (p .two < job .count)) (pairs (job .count)) (pairs-are (job .count)))
-      (first-least (share job) NotAfter (λ p. (omega arith, λ e. omega arith)) (pairs (job .count)) (pairs-ordered (job .count)))
+      shared-due (record {
+        grid = grid;
+        bytes = bytes;
+        limits = limits;
+        count = count;
+        ends = λ i l. ends-exact job i .0 (is-false (every-member (λ i. T (wrongEnds job i) → ⊥) (range 0 (job .count)) fact (member-range {x = i} 0 (job .count) (omega arith) (omega arith))));
+      }) (firstShared (job .startOf) (job .count)) (first-share (job .startOf) (job .count))
   ends-due grid bytes limits count (some i) fact least =
       due-5 grid bytes limits count i (fact .1) (λ r. of-false (ends-exact job i .1 r) (fact .0))
       (λ j l. ends-exact job j .0
       (is-false (λ t. let k : i ≤ j = every-member (λ j. T (wrongEnds job j) → i ≤ j) (range 0 (job .count)) least (member-range {x = j} 0 (job .count) (omega arith) (omega (arith, fact .1))) t in omega arith)))
 
   abbrev fromEnds : Verdict
-  fromEnds = endsVerdict (firstWrong job) (sharedVerdict (firstShared job))
+  fromEnds = endsVerdict (firstWrong job) (sharedBy (job .startOf) (job .goalOf) (job .count))
 
   count-due : RightGrid job → RightBytes job → RightLimits job × N → (b : Bool) → wrongCount job ≡ b → Due job N (verdictTold (refuseIf b WrongCount fromEnds))
   unfolding refuseIf firstWrong
@@ -244,7 +289,8 @@ module _ (wrongN : Bool) (N : Type 0) (exact : (wrongN ≡ false) ↔ N) (job : 
   zero-right told (due-3 g b w) e = absurd (omega arith)
   zero-right told (due-4 g b l w) e = absurd (omega arith)
   zero-right told (due-5 g b l c i h w first) e = absurd (omega arith)
-  zero-right told (due-6 g b l c ends i j h below s first) e = absurd (omega arith)
+  zero-right told (due-6 g b l c ends i j first) e = absurd (omega arith)
+  zero-right told (due-16 g b l c ends starts i j first) e = absurd (omega arith)
   zero-right told (due-0 r n) e = (r, n)
 
   right-zero : (told : Told) → Due job N told → RightJob job × N → told .number ≡ 0
@@ -253,23 +299,52 @@ module _ (wrongN : Bool) (N : Type 0) (exact : (wrongN ≡ false) ↔ N) (job : 
   right-zero told (due-3 g b w) r = absurd (w (r .0 .limits, r .1))
   right-zero told (due-4 g b l w) r = absurd (w (r .0 .count))
   right-zero told (due-5 g b l c i h w first) r = absurd (w (r .0 .ends i h))
-  right-zero told (due-6 g b l c ends i j h below s first) r = absurd (r .0 .apart i j h below s)
+  right-zero told (due-6 g b l c ends i j first) r = absurd (r .0 .starts i j (first .apart) (first .inside) (first .shared))
+  right-zero told (due-16 g b l c ends starts i j first) r = absurd (r .0 .goals i j (first .apart) (first .inside) (first .shared))
   right-zero told (due-0 q n) r = refl
-
-  -- only an accepted job is given 0
-  only-accepted : (v : Verdict) → verdictTold v .number ≡ 0 → v ≡ Accepted
-  only-accepted Accepted e = refl
-  only-accepted WrongGrid e = absurd (omega arith)
-  only-accepted WrongBytes e = absurd (omega arith)
-  only-accepted WrongLimits e = absurd (omega arith)
-  only-accepted WrongCount e = absurd (omega arith)
-  only-accepted (WrongEnds i) e = absurd (omega arith)
-  only-accepted (SharedEnds i j) e = absurd (omega arith)
 
   pub accepted-right : (judgeWith wrongN job ≡ Accepted) ↔ (RightJob job × N)
   accepted-right = (
     λ e. zero-right (verdictTold (judgeWith wrongN job)) judged-due (ap (λ (v : Verdict). verdictTold v .number) e),
-    λ r. only-accepted (judgeWith wrongN job) (right-zero (verdictTold (judgeWith wrongN job)) judged-due r),
+    λ r. zero-accepted (judgeWith wrongN job) (right-zero (verdictTold (judgeWith wrongN job)) judged-due r),
+  )
+
+  -- ---- 6 and 16, exactly: of a job that passes checks 1 to 5
+
+  -- two carriers with one end
+  abbrev Share : (ℕ → ℕ) → Type 0
+  Share endOf = (i j : ℕ) × (i < j) × (j < job .count) × (endOf i ≡ endOf j)
+
+  starts-six : Before → (told : Told) → Due job N told → Share (job .startOf) → told .number ≡ 6
+  starts-six r told (due-1 w) s = absurd (w (r .grid))
+  starts-six r told (due-2 g w) s = absurd (w (r .bytes))
+  starts-six r told (due-3 g b w) s = absurd (w (r .limits))
+  starts-six r told (due-4 g b l w) s = absurd (w (r .count))
+  starts-six r told (due-5 g b l c i h w first) s = absurd (w (r .ends i h))
+  starts-six r told (due-6 g b l c ends i j first) s = refl
+  starts-six r told (due-16 g b l c ends starts i j first) (a, b′, apart, inside, e) = absurd (starts a b′ apart inside e)
+  starts-six r told (due-0 q n) (a, b, apart, inside, e) = absurd (q .starts a b apart inside e)
+
+  goals-sixteen : Before → (told : Told) → Due job N told → NoneShare (job .startOf) (job .count) → Share (job .goalOf) → told .number ≡ 16
+  goals-sixteen r told (due-1 w) apart s = absurd (w (r .grid))
+  goals-sixteen r told (due-2 g w) apart s = absurd (w (r .bytes))
+  goals-sixteen r told (due-3 g b w) apart s = absurd (w (r .limits))
+  goals-sixteen r told (due-4 g b l w) apart s = absurd (w (r .count))
+  goals-sixteen r told (due-5 g b l c i h w first) apart s = absurd (w (r .ends i h))
+  goals-sixteen r told (due-6 g b l c ends i j first) apart s = absurd (apart i j (first .apart) (first .inside) (first .shared))
+  goals-sixteen r told (due-16 g b l c ends starts i j first) apart s = refl
+  goals-sixteen r told (due-0 q n) apart (a, b, less, inside, e) = absurd (q .goals a b less inside e)
+
+  pub six-exactly : Before → (verdictTold (judgeWith wrongN job) .number ≡ 6) ↔ Share (job .startOf)
+  six-exactly r = (
+    λ e. let first = due-six job N (verdictTold (judgeWith wrongN job)) judged-due e in (_, _, first .apart, first .inside, first .shared),
+    λ s. starts-six r (verdictTold (judgeWith wrongN job)) judged-due s,
+  )
+
+  pub sixteen-exactly : Before → (verdictTold (judgeWith wrongN job) .number ≡ 16) ↔ (NoneShare (job .startOf) (job .count) × Share (job .goalOf))
+  sixteen-exactly r = (
+    λ e. let (starts, first) = due-sixteen job N (verdictTold (judgeWith wrongN job)) judged-due e in (starts, (_, _, first .apart, first .inside, first .shared)),
+    λ s. goals-sixteen r (verdictTold (judgeWith wrongN job)) judged-due (s .0) (s .1),
   )
 
 -- the planner's job, and that of the two checks

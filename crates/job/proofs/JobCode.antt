@@ -12,14 +12,14 @@ use Rattle.hall.specs.Hall.{wrongGrid, wrongBytes}
 use Rattle.job.specs.Job.{Job, Pair, wrongLimits, wrongCount, wrongEnds, firstWrong, share, pairs, firstShared}
 use Rattle.job.specs.Team.{jobOf}
 use Rattle.job.specs.Verdict.{endsVerdict, sharedVerdict, judgeWith}
-use Rattle.job.specs.Found.{carriersOf, pairsFrom, endFound, pairFound}
+use Rattle.job.specs.Found.{sharedBy, pairsFrom, endFound, pairFound}
 use Rattle.job.specs.declared.Team.{Team}
 use Rattle.job.specs.declared.Ends.{Ends}
 use Rattle.job.specs.declared.Ends.the-variants.{Right, Wrong}
 use Rattle.job.specs.declared.Shared.{Shared}
 use Rattle.job.specs.declared.Shared.the-variants.{Nobody, Two}
 use Rattle.job.specs.declared.Verdict.{Verdict}
-use Rattle.job.specs.declared.Verdict.the-variants.{Accepted, WrongGrid, WrongBytes, WrongLimits, WrongCount, WrongEnds, SharedEnds}
+use Rattle.job.specs.declared.Verdict.the-variants.{WrongGrid, WrongBytes, WrongLimits, WrongCount, WrongEnds}
 
 -- ---- the definitions, as the loops go through them
 
@@ -31,11 +31,11 @@ pub pairs-from : (m i : ℕ) → pairsFrom m i ≡ map (λ j. record { one = i; 
 unfolding pairsFrom
 pairs-from m i = rw add-one
 
-pub shared-from : (job : Job) → firstShared job ≡ firstOf (share job) (each (pairsFrom (job .count)) (range 0 (job .count - 0)))
+pub shared-from : (endOf : ℕ → ℕ) (m : ℕ) → firstShared endOf m ≡ firstOf (share endOf) (each (pairsFrom m) (range 0 (m - 0)))
 unfolding firstShared pairs pairsFrom
-shared-from job = let e : job .count - 0 ≡ job .count = omega arith in rw e
+shared-from endOf m = let e : m - 0 ≡ m = omega arith in rw e
 
--- ---- answers 5 and 6
+-- ---- answers 5, 6 and 16
 
 pub found-wrong : (ends : Ends) (i : ℕ) (o : Option ℕ) (rest : Verdict) → ends ≡ Wrong i → endFound ends ≡ o → WrongEnds i ≡ endsVerdict o rest
 unfolding endFound endsVerdict
@@ -45,13 +45,14 @@ pub found-right : (ends : Ends) (o : Option ℕ) (rest : Verdict) → ends ≡ R
 unfolding endFound endsVerdict
 found-right ends o rest e f = rw (← f, e)
 
-pub found-nobody : (shared : Shared) (o : Option Pair) → shared ≡ Nobody → pairFound shared ≡ o → Accepted ≡ sharedVerdict o
-unfolding pairFound sharedVerdict
-found-nobody shared o e f = rw (← f, e)
+module _ (refusal : ℕ → ℕ → Verdict) (shared : Shared) (o : Option Pair) (rest : Verdict) where
+  pub found-nobody : shared ≡ Nobody → pairFound shared ≡ o → rest ≡ sharedVerdict refusal o rest
+  unfolding pairFound sharedVerdict
+  found-nobody e f = rw (← f, e)
 
-pub found-two : (shared : Shared) (i j : ℕ) (o : Option Pair) → shared ≡ Two i j → pairFound shared ≡ o → SharedEnds i j ≡ sharedVerdict o
-unfolding pairFound sharedVerdict
-found-two shared i j o e f = rw (← f, e)
+  pub found-two : (i j : ℕ) → shared ≡ Two i j → pairFound shared ≡ o → refusal i j ≡ sharedVerdict refusal o rest
+  unfolding pairFound sharedVerdict
+  found-two i j e f = rw (← f, e)
 
 pub pair-some : (shared : Shared) (i j : ℕ) (o : Option Pair) → shared ≡ Two i j → pairFound shared ≡ o → o ≡ pairFound (Two i j)
 pair-some shared i j o e f = sym f ∙ ap pairFound e
@@ -83,11 +84,11 @@ module _ (wrongN : Bool) (job : Job) where
   unfolding judgeWith refuseIf
   judge-count g b l n c = simp (g, b, l, n, c)
 
-  pub judge-rest : wrongGrid (job .hall) ≡ false → wrongBytes (job .hall) ≡ false → wrongLimits job ≡ false → wrongN ≡ false → wrongCount job ≡ false → endsVerdict (firstWrong job) (sharedVerdict (firstShared job)) ≡ judgeWith wrongN job
+  pub judge-rest : wrongGrid (job .hall) ≡ false → wrongBytes (job .hall) ≡ false → wrongLimits job ≡ false → wrongN ≡ false → wrongCount job ≡ false → endsVerdict (firstWrong job) (sharedBy (job .startOf) (job .goalOf) (job .count)) ≡ judgeWith wrongN job
   unfolding judgeWith refuseIf
   judge-rest g b l n c = simp (g, b, l, n, c)
 
--- answers 5 and 6 look at neither k nor H
-pub ends-same : (width height : ℕ) (bytes : List ℕ) (team : Team) (k h : ℕ) → endsVerdict (firstWrong (jobOf width height bytes team 0 0)) (sharedVerdict (firstShared (carriersOf team))) ≡ endsVerdict (firstWrong (jobOf width height bytes team k h)) (sharedVerdict (firstShared (jobOf width height bytes team k h)))
-unfolding firstWrong wrongEnds firstShared share
-ends-same width height bytes team k h = refl
+-- answer 5 looks at neither k nor H
+pub ends-same : (width height : ℕ) (bytes : List ℕ) (team : Team) (k h : ℕ) (rest : Verdict) → endsVerdict (firstWrong (jobOf width height bytes team 0 0)) rest ≡ endsVerdict (firstWrong (jobOf width height bytes team k h)) rest
+unfolding firstWrong wrongEnds
+ends-same width height bytes team k h rest = refl

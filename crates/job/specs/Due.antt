@@ -1,5 +1,6 @@
--- Document 01, 'The floor and the job' and rows 0 to 6 of 'Numbers given back', in plain numbers: what makes a job right, check by
--- check, and which number is due. The law `judged-due` proves it of what `judgeWith` gives, `accepted-exactly` of what it accepts.
+-- Document 01, 'The floor and the job' and rows 0 to 6 of 'Numbers given back', with P1's row 16, in plain numbers: what makes a job
+-- right, check by check, and which number is due. The law `judged-due` proves it of what `judgeWith` gives, `accepted-exactly` of what
+-- it accepts.
 use Prim.Native.Nat.{ℕ, _*_, _≤_, _<_}
 use mathlib.Core.Path.{_≡_}
 use mathlib.Core.Logic.{_⊎_}
@@ -42,21 +43,29 @@ pub record RightEnds (job : Job) (i : ℕ) : Type 0 where
   pub start : OpenCell job (job .startOf i)
   pub goal : OpenCell job (job .goalOf i)
 
--- 'two carriers share a start, or share a goal'
-unfoldable pub Shares : Job → ℕ → ℕ → Type 0
-Shares job i j = (job .startOf i ≡ job .startOf j) ⊎ (job .goalOf i ≡ job .goalOf j)
+-- no two of m carriers have one end, a start or a goal by `endOf`
+abbrev pub NoneShare : (ℕ → ℕ) → ℕ → Type 0
+NoneShare endOf m = (i j : ℕ) → i < j → j < m → endOf i ≡ endOf j → ⊥
 
--- a job that passes checks 1 to 6, but for N
+-- two that have, 'least i, then least j, i < j'
+pub record FirstShare (endOf : ℕ → ℕ) (m i j : ℕ) : Type 0 where
+  pub apart : i < j
+  pub inside : j < m
+  pub shared : endOf i ≡ endOf j
+  pub least : (a b : ℕ) → a < b → b < m → endOf a ≡ endOf b → (i ≤ a) × (i ≡ a → j ≤ b)
+
+-- a job that passes checks 1 to 6 and 16, but for N
 pub record RightJob (job : Job) : Type 0 where
   pub grid : RightGrid job
   pub bytes : RightBytes job
   pub limits : RightLimits job
   pub count : RightCount job
   pub ends : (i : ℕ) → i < job .count → RightEnds job i
-  pub apart : (i j : ℕ) → i < j → j < job .count → Shares job i j → ⊥
+  pub starts : NoneShare (job .startOf) (job .count)
+  pub goals : NoneShare (job .goalOf) (job .count)
 
--- Rows 0 to 6: 'If several apply, the lowest number is given.' `N` is that the capacity is right, where the check looks at one. Told
--- are for 5 the 'first such carrier', for 6 'least i, then least j, i < j'.
+-- Rows 0 to 6 and 16: 'If several apply, the lowest number is given', and 16 'directly after 6'. `N` is that the capacity is right,
+-- where the check looks at one. Told are for 5 the 'first such carrier', for 6 and 16 'the pair'.
 pub data Due (job : Job) (N : Type 0) : Told → Type 0 where
   due-1 : (RightGrid job → ⊥) → Due job N (bare 1)
   due-2 : RightGrid job → (RightBytes job → ⊥) → Due job N (bare 2)
@@ -65,6 +74,7 @@ pub data Due (job : Job) (N : Type 0) : Told → Type 0 where
   due-5 : RightGrid job → RightBytes job → RightLimits job × N → RightCount job
       → (i : ℕ) → i < job .count → (RightEnds job i → ⊥) → ((j : ℕ) → j < i → RightEnds job j) → Due job N (named 5 i 0)
   due-6 : RightGrid job → RightBytes job → RightLimits job × N → RightCount job → ((i : ℕ) → i < job .count → RightEnds job i)
-      → (i j : ℕ) → i < j → j < job .count → Shares job i j
-      → ((a b : ℕ) → a < b → b < job .count → Shares job a b → (i ≤ a) × (i ≡ a → j ≤ b)) → Due job N (named 6 i j)
+      → (i j : ℕ) → FirstShare (job .startOf) (job .count) i j → Due job N (named 6 i j)
+  due-16 : RightGrid job → RightBytes job → RightLimits job × N → RightCount job → ((i : ℕ) → i < job .count → RightEnds job i)
+      → NoneShare (job .startOf) (job .count) → (i j : ℕ) → FirstShare (job .goalOf) (job .count) i j → Due job N (named 16 i j)
   due-0 : RightJob job → N → Due job N (bare 0)

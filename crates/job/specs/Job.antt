@@ -62,17 +62,20 @@ wrongEnds job i = not (isOpen (job .hall) (job .startOf i)) || not (isOpen (job 
 unfoldable pub firstWrong : Job → Option ℕ
 firstWrong job = firstOf (wrongEnds job) (range 0 (job .count))
 
--- answer 6: 'two carriers share a start, or share a goal'; told is 'least i, then least j, i < j'
+-- answers 6 and 16, P1: 6 'for two carriers with one start', 16 'for one goal, each with the pair'; told is 'least i, then least
+-- j, i < j'
 pub record Pair : Type 0 where
   pub one : ℕ
   pub two : ℕ
 
-unfoldable pub share : Job → Pair → Bool
-share job p = eqb (job .startOf (p .one)) (job .startOf (p .two)) || eqb (job .goalOf (p .one)) (job .goalOf (p .two))
+-- two carriers with one end: `endOf` gives each carrier's start, or each carrier's goal
+unfoldable pub share : (ℕ → ℕ) → Pair → Bool
+share endOf p = eqb (endOf (p .one)) (endOf (p .two))
 
 -- the pairs with i < j, by i and then by j
 unfoldable pub pairs : ℕ → List Pair
 pairs m = each (λ i. map (λ j. record { one = i; two = j }) (range (suc i) (m - suc i))) (range 0 m)
 
-unfoldable pub firstShared : Job → Option Pair
-firstShared job = firstOf (share job) (pairs (job .count))
+-- the first of m carriers
+unfoldable pub firstShared : (ℕ → ℕ) → ℕ → Option Pair
+firstShared endOf m = firstOf (share endOf) (pairs m)

@@ -1,4 +1,4 @@
-// What a job is and what makes one accepted: answers 1 to 6 of document 01.
+// What a job is and what makes one accepted: answers 1 to 6 of document 01, and 16 of P1.
 ghost use Prim.Native.Nat.{_≤_, _<_};
 ghost use mathlib.Core.Bool.{not, _||_};
 ghost use mathlib.Core.Path.{_≡_};
@@ -8,8 +8,8 @@ ghost use Rattle.hall.specs.Hall.{isOpen};
 ghost use Rattle.job.specs.Job.{wrongCapacity, firstWrong, share, firstShared};
 ghost use Rattle.job.specs.Team.{jobOf};
 ghost use Rattle.job.specs.Told.{refusal as refusalOf};
-ghost use Rattle.job.specs.Verdict.{verdictTold, endsVerdict, sharedVerdict, judgeWith};
-ghost use Rattle.job.specs.Found.{carriersOf, endFound, pairFound, pairsFrom};
+ghost use Rattle.job.specs.Verdict.{verdictTold, endsVerdict, judgeWith};
+ghost use Rattle.job.specs.Found.{endIn, sharedBy, endFound, pairFound, pairsFrom};
 
 // 'the delay bound k (0 to 4), the horizon H (0 to 63) and the capacity N (1 to 1,024 records). There are 1 to 8 carriers.'
 const MOST_DELAY: usize = 4;
@@ -27,7 +27,7 @@ pub struct Team {
     pub count: usize,
 }
 
-// What the checks 1 to 6 say, the lowest number first.
+// What the checks 1 to 6 and 16 say, in their order.
 pub enum Verdict {
     Accepted,
     WrongGrid,
@@ -35,7 +35,8 @@ pub enum Verdict {
     WrongLimits,
     WrongCount,
     WrongEnds { carrier: usize },
-    SharedEnds { carrier: usize, other: usize },
+    SharedStart { carrier: usize, other: usize },
+    SharedGoal { carrier: usize, other: usize },
 }
 
 // What is given back: the number and what is told beside it. 'Untold numbers are 0.'
@@ -45,9 +46,12 @@ pub struct Told {
     pub records: usize,
     pub carrier: usize,
     pub other: usize,
+    pub table: usize,
+    pub needed: usize,
 }
 
-// What the two plan checks give back: a number, one carrier or two, a step, a distance, and 1 for a swap.
+// What the two plan checks give back: a number, one carrier or two, a step, a distance, 1 for a swap, and the length that the plan
+// needed.
 pub struct Fault {
     pub number: usize,
     pub carrier: usize,
@@ -55,11 +59,12 @@ pub struct Fault {
     pub step: usize,
     pub distance: usize,
     pub swap: usize,
+    pub needed: usize,
 }
 
 // A number with nothing told, or with a carrier or two.
 fn named(number: usize, carrier: usize, other: usize) -> Told
-    ensures { λ r. ⌜ r ≡ record { number = number; sum = 0; records = 0; carrier = carrier; other = other } ⌝ }
+    ensures { λ r. ⌜ r ≡ record { number = number; sum = 0; records = 0; carrier = carrier; other = other; table = 0; needed = 0 } ⌝ }
 {
     Told {
         number,
@@ -67,6 +72,8 @@ fn named(number: usize, carrier: usize, other: usize) -> Told
         records: 0,
         carrier,
         other,
+        table: 0,
+        needed: 0,
     }
 }
 
@@ -81,7 +88,8 @@ pub fn verdict_told(verdict: Verdict) -> Told
         Verdict::WrongLimits => named(3, 0, 0),
         Verdict::WrongCount => named(4, 0, 0),
         Verdict::WrongEnds { carrier } => named(5, carrier, 0),
-        Verdict::SharedEnds { carrier, other } => named(6, carrier, other),
+        Verdict::SharedStart { carrier, other } => named(6, carrier, other),
+        Verdict::SharedGoal { carrier, other } => named(16, carrier, other),
     }
 }
 
@@ -96,6 +104,7 @@ pub fn refusal(told: Told) -> Fault
         step: 0,
         distance: 0,
         swap: 0,
+        needed: 0,
     }
 }
 
@@ -155,29 +164,20 @@ fn first_wrong(hall: &[u8], width: usize, height: usize, team: Team) -> Ends
     Ends::Right
 }
 
-// Answer 6, of two carriers: 'two carriers share a start, or share a goal'.
-fn shares(team: Team, i: usize, j: usize) -> bool
-    requires { ⌜ (i < 8) × (j < 8) ⌝ }
-    ensures { λ r. ⌜ r ≡ share (carriersOf team) (record { one = i; two = j }) ⌝ }
-{
-    team.starts[i] == team.starts[j] || team.goals[i] == team.goals[j]
-}
-
-// Two carriers that share a start or a goal.
+// Two carriers that share a start, or a goal.
 enum Shared {
     Nobody,
     Two(usize, usize),
 }
 
-// Carrier i and the first after it that shares with it.
-fn shared_with(team: Team, i: usize) -> Shared
-    requires { ⌜ (i < 8) × (team .count ≤ 8) ⌝ }
-    ensures { λ r. ⌜ pairFound r ≡ firstOf (share (carriersOf team)) (pairsFrom (team .count) i) ⌝ }
+// Carrier i and the first after it that shares its cell.
+fn shared_with(cells: [u8; 8], count: usize, i: usize) -> Shared
+    requires { ⌜ (i < 8) × (count ≤ 8) ⌝ }
+    ensures { λ r. ⌜ pairFound r ≡ firstOf (share (endIn cells)) (pairsFrom count i) ⌝ }
 {
-    let count = team.count;
     let mut j = i + 1;
     while j < count {
-        if shares(team, i, j) {
+        if cells[i] == cells[j] {
             return Shared::Two(i, j);
         }
         j += 1;
@@ -185,15 +185,14 @@ fn shared_with(team: Team, i: usize) -> Shared
     Shared::Nobody
 }
 
-// 'least i, then least j, i < j'
-fn first_shared(team: Team) -> Shared
-    requires { ⌜ team .count ≤ 8 ⌝ }
-    ensures { λ r. ⌜ pairFound r ≡ firstShared (carriersOf team) ⌝ }
+// 'least i, then least j, i < j', asked for the starts and then for the goals.
+fn first_shared(cells: [u8; 8], count: usize) -> Shared
+    requires { ⌜ count ≤ 8 ⌝ }
+    ensures { λ r. ⌜ pairFound r ≡ firstShared (endIn cells) count ⌝ }
 {
-    let count = team.count;
     let mut i = 0;
     while i < count {
-        let found = shared_with(team, i);
+        let found = shared_with(cells, count, i);
         match found {
             Shared::Nobody => {}
             Shared::Two(a, b) => return Shared::Two(a, b),
@@ -203,26 +202,38 @@ fn first_shared(team: Team) -> Shared
     Shared::Nobody
 }
 
-// Answers 5 and 6.
+// Answers 6 and 16.
+fn judge_shared(team: Team) -> Verdict
+    requires { ⌜ team .count ≤ 8 ⌝ }
+    ensures { λ r. ⌜ r ≡ sharedBy (endIn (team .starts)) (endIn (team .goals)) (team .count) ⌝ }
+{
+    let starts = team.starts;
+    let goals = team.goals;
+    let from = first_shared(starts, team.count);
+    if let Shared::Two(carrier, other) = from {
+        return Verdict::SharedStart { carrier, other };
+    }
+    let to = first_shared(goals, team.count);
+    if let Shared::Two(carrier, other) = to {
+        return Verdict::SharedGoal { carrier, other };
+    }
+    Verdict::Accepted
+}
+
+// Answers 5, 6 and 16.
 fn judge_ends(hall: &[u8], width: usize, height: usize, team: Team) -> Verdict
     requires { ⌜ (width ≤ 16) × (height ≤ 16) × (team .count ≤ 8) ⌝ }
-    ensures { λ r. ⌜ r ≡ endsVerdict (firstWrong (jobOf width height (now (hall .entry)) team 0 0)) (sharedVerdict (firstShared (carriersOf team))) ⌝ }
+    ensures { λ r. ⌜ r ≡ endsVerdict (firstWrong (jobOf width height (now (hall .entry)) team 0 0)) (sharedBy (endIn (team .starts)) (endIn (team .goals)) (team .count)) ⌝ }
 {
     let ends = first_wrong(hall, width, height, team);
     if let Ends::Wrong(i) = ends {
         return Verdict::WrongEnds { carrier: i };
     }
-    let shared = first_shared(team);
-    match shared {
-        Shared::Nobody => Verdict::Accepted,
-        Shared::Two(i, j) => Verdict::SharedEnds {
-            carrier: i,
-            other: j,
-        },
-    }
+    judge_shared(team)
 }
 
-// The checks 1 to 6, 'the lowest number is given'. The planner's third looks at N too: `wrong_n` is what it says of N.
+// The checks 1 to 6 and 16, 'the lowest number is given', 16 'directly after 6'. The planner's third looks at N too: `wrong_n` is
+// what it says of N.
 pub fn judge_job(
     hall: &[u8],
     width: usize,

@@ -1,5 +1,6 @@
-// Document 01, 'Jobs worked by hand', those with two carriers: the carriers are lent as a list of records to the planner and to both
-// checks of what it wrote. For each job its lines, then the numbers of the route check and of the meeting check, then an empty line.
+// Document 01, 'Jobs worked by hand', those with two carriers, and refusals of document 02, P1: the carriers are lent as a list of
+// records to the planner and to both checks of what it wrote. For each job its lines, then the numbers of the route check and of the
+// meeting check, then an empty line.
 use carriers::Carrier;
 use clashes::MeetingVerdict;
 use job::Team;
@@ -165,4 +166,9 @@ fn main() {
     show(b"...", 3, 1, pair(0, 1, 1, 2), 1, 2, 8);
     // Width 4, height 2, 6→2 and 0→3, k 0, H 3.
     show(b"........", 4, 2, pair(6, 2, 0, 3), 0, 3, 8);
+    // Document 02, P1: one start, one goal, both, and a table too short: with N 9 the columns need 72 entries, and 64 are lent.
+    show(b"...", 3, 1, pair(0, 1, 0, 2), 0, 2, 8);
+    show(b"...", 3, 1, pair(0, 2, 1, 2), 0, 2, 8);
+    show(b"...", 3, 1, pair(0, 2, 0, 2), 0, 2, 8);
+    show(b"...", 3, 1, pair(0, 1, 1, 2), 0, 1, 9);
 }

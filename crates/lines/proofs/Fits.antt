@@ -1,5 +1,5 @@
 -- No text that is printed for a book is longer than 2,296 bytes, whatever the book, N and the tables: of the numbers told none has more
--- than four digits, a cell has at most three, and 8 carriers have at most 64 cells each. So a page of 4,096 bytes takes it whole.
+-- than four digits, the needed length six, a cell has at most three, and 8 carriers have at most 64 cells each. So a page of 4,096 bytes takes it whole.
 -- Assumes nothing.
 use Prim.Native.Nat.{ℕ, zero, suc, _+_, _*_, _≤_, _<_}
 use native.Mathlib.Omega.{arith}
@@ -28,9 +28,9 @@ use Rattle.tables.specs.Tables.{Tables}
 use Rattle.tables.proofs.Held.{route-held}
 use Rattle.planner.specs.Answer.{planned, answerTold}
 use Rattle.text.specs.Text.{Page, digits}
-use Rattle.text.proofs.Lengths.{three-digits, four-digits}
+use Rattle.text.proofs.Lengths.{three-digits, four-digits, six-digits}
 use Rattle.text.proofs.TextLaws.{put-whole}
-use Rattle.lines.specs.Lines.{answerWord, sumWord, recordsWord, carrierWord, space, numberLine, pairLine, cellsText, costLine, carrierLine, carrierLines, planText, restText, toldText}
+use Rattle.lines.specs.Lines.{answerWord, sumWord, recordsWord, carrierWord, tableWord, neededWord, space, numberLine, pairLine, cellsText, costLine, carrierLine, carrierLines, planText, shortText, restText, toldText}
 use Rattle.lines.specs.Printed.{teamIn, jobIn, resultText, bookText, bookTables, Printed}
 use Rattle.lines.proofs.Answers.{cost-within, zero-found, told-small}
 use Rattle.lines.proofs.Small.{Small}
@@ -44,6 +44,10 @@ line-fits word n small = simp length-append (omega (arith, three-digits n small)
 long-line-fits : (word : List ℕ) (n : ℕ) → n < 10000 → length (numberLine word n) ≤ length word + 5
 unfolding numberLine
 long-line-fits word n small = simp length-append (omega (arith, four-digits n small))
+
+longest-line-fits : (word : List ℕ) (n : ℕ) → n < 1000000 → length (numberLine word n) ≤ length word + 7
+unfolding numberLine
+longest-line-fits word n small = simp length-append (omega (arith, six-digits n small))
 
 pair-fits : (i j : ℕ) → i < 1000 → j < 1000 → length (pairLine i j) ≤ 17
 unfolding pairLine
@@ -105,17 +109,19 @@ cond-fits true x y most f g = f tt
 cond-fits false x y most f g = g
 
 rest-fits : (told : Told) (carriers : List ℕ) → Small told → (told .number ≡ 0 → length carriers ≤ 2264) → length (restText told carriers) ≤ 2285
-unfolding restText planText
+unfolding restText planText shortText
 rest-fits told carriers small plan =
     cond-fits (eqb (told .number) 0) (planText told carriers) _ 2285
     (λ t. simp length-append (omega (arith, plan (eqb→eq (told .number) 0 t), line-fits sumWord (told .sum) (small .sum), long-line-fits recordsWord (told .records) (omega (arith, small .records)))))
     (cond-fits (eqb (told .number) 5) (numberLine carrierWord (told .carrier)) _ 2285
     (λ t. omega (arith, line-fits carrierWord (told .carrier) (omega (arith, small .carrier))))
-    (cond-fits (eqb (told .number) 6) (pairLine (told .carrier) (told .other)) _ 2285
+    (cond-fits (eqb (told .number) 6 || eqb (told .number) 16) (pairLine (told .carrier) (told .other)) _ 2285
     (λ t. omega (arith, pair-fits (told .carrier) (told .other) (omega (arith, small .carrier)) (omega (arith, small .other))))
+    (cond-fits (eqb (told .number) 7) (shortText told) _ 2285
+    (λ t. simp length-append (omega (arith, line-fits tableWord (told .table) (omega (arith, small .table)), longest-line-fits neededWord (told .needed) (omega (arith, small .needed)))))
     (cond-fits (eqb (told .number) 8 || eqb (told .number) 9) (numberLine recordsWord (told .records)) [] 2285
     (λ t. omega (arith, long-line-fits recordsWord (told .records) (omega (arith, small .records))))
-    (omega arith))))
+    (omega arith)))))
 
 result-fits : (book : List ℕ) (n : ℕ) (ts : Tables) → length (resultText book (planned (jobIn book) n ts)) ≤ 2296
 unfolding resultText toldText

@@ -15,8 +15,8 @@ use Rattle.job.specs.declared.Told.{Told}
 use Rattle.routes.specs.Route.{cost, routeIn}
 use Rattle.text.specs.Text.{Page, putByte, put, digits}
 use Rattle.text.proofs.TextLaws.{put-append, put-one}
-use Rattle.lines.specs.Lines.{space, answerWord, sumWord, recordsWord, carrierWord, carriersWord, costWord, cellsWord}
-use Rattle.lines.specs.Lines.{numberLine, pairLine, cellsText, costLine, carrierLine, carrierLines, holdsNoPlan, carriersText, planText, restText, toldText}
+use Rattle.lines.specs.Lines.{space, answerWord, sumWord, recordsWord, carrierWord, carriersWord, tableWord, neededWord, costWord, cellsWord}
+use Rattle.lines.specs.Lines.{numberLine, pairLine, cellsText, costLine, carrierLine, carrierLines, holdsNoPlan, carriersText, planText, shortText, restText, toldText}
 
 pub line-put : (p q r s : Page) (word : List ℕ) (n : ℕ) → q ≡ put p word → r ≡ put q (digits n) → s ≡ putByte r 10 → s ≡ put p (numberLine word n)
 unfolding numberLine
@@ -107,7 +107,6 @@ plan-lines team h output right = rw (right, carriersText)
 pub team-put : (p q : Page) (team : Team) (h : ℕ) (output : List ℕ) → team .count ≤ 8 → h ≤ 63 → team .count * (h + 1) ≤ length output → q ≡ put p (carrierLines team h output (team .count)) → q ≡ put p (carriersText team h output)
 team-put p q team h output few soon long e = rw (plan-lines team h output (holds-plan team h output few soon long)) e
 
--- the code multiplies at most 8 by at most 64
 -- ---- the lines by the number
 
 pub plan-put : (p q r s : Page) (told : Told) (team : Team) (h : ℕ) (output : List ℕ)
@@ -115,6 +114,10 @@ pub plan-put : (p q r s : Page) (told : Told) (team : Team) (h : ℕ) (output : 
     → s ≡ put p (planText told (carriersText team h output))
 unfolding planText
 plan-put p q r s told team h output e f g = simp put-append cc
+
+pub short-put : (p q r : Page) (told : Told) → q ≡ put p (numberLine tableWord (told .table)) → r ≡ put q (numberLine neededWord (told .needed)) → r ≡ put p (shortText told)
+unfolding shortText
+short-put p q r told e f = simp put-append cc
 
 module _ (p q : Page) (told : Told) (team : Team) (h : ℕ) (output : List ℕ) where
   pub rest-0 : told .number ≡ 0 → q ≡ put p (planText told (carriersText team h output)) → q ≡ put p (restText told (carriersText team h output))
@@ -129,6 +132,14 @@ module _ (p q : Page) (told : Told) (team : Team) (h : ℕ) (output : List ℕ) 
   unfolding restText
   rest-6 is e = rw (is, restText) e
 
+  pub rest-16 : told .number ≡ 16 → q ≡ put p (pairLine (told .carrier) (told .other)) → q ≡ put p (restText told (carriersText team h output))
+  unfolding restText
+  rest-16 is e = rw (is, restText) e
+
+  pub rest-7 : told .number ≡ 7 → q ≡ put p (shortText told) → q ≡ put p (restText told (carriersText team h output))
+  unfolding restText shortText
+  rest-7 is e = rw (is, restText) e
+
   pub rest-8 : told .number ≡ 8 → q ≡ put p (numberLine recordsWord (told .records)) → q ≡ put p (restText told (carriersText team h output))
   unfolding restText
   rest-8 is e = rw (is, restText) e
@@ -138,11 +149,11 @@ module _ (p q : Page) (told : Told) (team : Team) (h : ℕ) (output : List ℕ) 
   rest-9 is e = rw (is, restText) e
 
 pub rest-none : (p : Page) (told : Told) (team : Team) (h : ℕ) (output : List ℕ)
-    → (told .number ≡ 0 → ⊥) → (told .number ≡ 5 → ⊥) → (told .number ≡ 6 → ⊥) → (told .number ≡ 8 → ⊥) → (told .number ≡ 9 → ⊥)
+    → (told .number ≡ 0 → ⊥) → (told .number ≡ 5 → ⊥) → (told .number ≡ 6 → ⊥) → (told .number ≡ 16 → ⊥) → (told .number ≡ 7 → ⊥) → (told .number ≡ 8 → ⊥) → (told .number ≡ 9 → ⊥)
     → p ≡ put p (restText told (carriersText team h output))
 unfolding put restText
-rest-none p told team h output n0 n5 n6 n8 n9 =
-    simp (ne-eqb (told .number) 0 n0, ne-eqb (told .number) 5 n5, ne-eqb (told .number) 6 n6, ne-eqb (told .number) 8 n8, ne-eqb (told .number) 9 n9, restText)
+rest-none p told team h output n0 n5 n6 n16 n7 n8 n9 =
+    simp (ne-eqb (told .number) 0 n0, ne-eqb (told .number) 5 n5, ne-eqb (told .number) 6 n6, ne-eqb (told .number) 16 n16, ne-eqb (told .number) 7 n7, ne-eqb (told .number) 8 n8, ne-eqb (told .number) 9 n9, restText)
 
 pub told-put : (p q r : Page) (told : Told) (team : Team) (h : ℕ) (output : List ℕ) → q ≡ put p (numberLine answerWord (told .number)) → r ≡ put q (restText told (carriersText team h output)) → r ≡ put p (toldText told (carriersText team h output))
 unfolding toldText

@@ -10,14 +10,16 @@ use Rattle.lists.specs.Lists.{refuseIf, each}
 use Rattle.routes.specs.Route.{routeIn, stepCost, cost}
 use Rattle.book.specs.Book.{noContents, bookVerdict, ifGood}
 use Rattle.book.proofs.Example.{printedBook}
+use Rattle.job.specs.Told.{named, counted, tooShort}
+use Rattle.job.specs.declared.Verdict.the-variants.{SharedGoal}
 use Rattle.tables.specs.Tables.{Tables}
 use Rattle.planner.specs.Answer.{answerTold}
-use Rattle.planner.specs.declared.Answer.the-variants.{Short, Full}
+use Rattle.planner.specs.declared.Answer.the-variants.{Refused, Short, Full}
 use Rattle.text.specs.Text.{Page, page, putByte, put, digitsWithin, digits}
-use Rattle.lines.specs.Lines.{answerWord, numberLine, cellsText, costLine, carrierLine, carrierLines, planText, restText, toldText, holdsNoPlan, carriersText}
+use Rattle.lines.specs.Lines.{answerWord, numberLine, pairLine, cellsText, costLine, carrierLine, carrierLines, planText, shortText, restText, toldText, holdsNoPlan, carriersText}
 use Rattle.lines.specs.Printed.{bookText, bookTables, Printed}
 use Rattle.lines.specs.Program.{programTables, programText, ProgramPrinted}
-use Rattle.lines.proofs.Example.{printedText, printed-book-text}
+use Rattle.lines.proofs.Example.{printedText, printed-book-text, sharedGoalBook, sharedGoalText, shared-goal-text}
 
 -- a page of so many zeros
 abbrev blank : ℕ → Page
@@ -27,7 +29,7 @@ blank n = page (replicate n 0) 0
 
 abbrev planLines : List ℕ
 planLines =
-    toldText (record { number = 0; sum = 2; records = 1; carrier = 0; other = 0 })
+    toldText (counted 0 2 1)
     (carriersText (record { starts = 0 ∷ []; goals = 2 ∷ []; count = 1 }) 2 (0 ∷ 1 ∷ 2 ∷ []))
 
 -- the last line ends with the cells 0 1 2, and the whole text has 54 bytes
@@ -40,12 +42,37 @@ pub sum-printed-as-records : (given : List ℕ) (r : ℕ) → getD given 23 0 �
 unfolding put putByte digits digitsWithin numberLine cellsText costLine carrierLine carrierLines planText restText toldText holdsNoPlan carriersText each routeIn cost stepCost
 sum-printed-as-records given r wrong e = let z : _≡_ {A = ℕ} 50 49 = sym wrong ∙ ap (λ (p : Page). getD (p .bytes) 23 0) e in omega arith
 
+-- 16 with carriers 0 and 1, the greater printed first: '1' is 49, at byte 19
+pub pair-printed-exchanged : (carriers given : List ℕ) (r : ℕ) → getD given 19 0 ≡ 49 → page given r ≡ put (blank 30) (toldText (named 16 0 1) carriers) → ⊥
+unfolding put putByte digits digitsWithin numberLine pairLine restText toldText
+pair-printed-exchanged carriers given r wrong e = let z : _≡_ {A = ℕ} 49 48 = sym wrong ∙ ap (λ (p : Page). getD (p .bytes) 19 0) e in omega arith
+
+-- 7 with the line of its length first: 'n' is 110, at byte 9
+pub length-printed-first : (carriers given : List ℕ) (r : ℕ) → getD given 9 0 ≡ 110 → page given r ≡ put (blank 30) (toldText (tooShort 1 4) carriers) → ⊥
+unfolding put putByte digits digitsWithin numberLine shortText restText toldText
+length-printed-first carriers given r wrong e = let z : _≡_ {A = ℕ} 110 116 = sym wrong ∙ ap (λ (p : Page). getD (p .bytes) 9 0) e in omega arith
+
 -- ---- answer_lines: for any lines of carriers, so for those of any team and output
 
 -- '8' is 56, at byte 7
-pub seven-printed-as-8 : (carriers given : List ℕ) (r : ℕ) → getD given 7 0 ≡ 56 → page given r ≡ put (blank 9) (toldText (answerTold Short) carriers) → ⊥
-unfolding put putByte digits digitsWithin numberLine restText toldText
+pub seven-printed-as-8 : (carriers given : List ℕ) (r : ℕ) → getD given 7 0 ≡ 56 → page given r ≡ put (blank 9) (toldText (answerTold (Short 1 4)) carriers) → ⊥
+unfolding put putByte digits digitsWithin numberLine shortText restText toldText
 seven-printed-as-8 carriers given r wrong e = let z : _≡_ {A = ℕ} 56 55 = sym wrong ∙ ap (λ (p : Page). getD (p .bytes) 7 0) e in omega arith
+
+-- 7 printed without what it tells: 'answer 7' has nine bytes, 'table 1' eight more, 'needed 4' nine more
+pub seven-printed-bare : (carriers given : List ℕ) → page given 9 ≡ put (blank 30) (toldText (answerTold (Short 1 4)) carriers) → ⊥
+unfolding put putByte digits digitsWithin numberLine shortText restText toldText
+seven-printed-bare carriers given e = let z : _≡_ {A = ℕ} 9 26 = ap (λ (p : Page). p .at) e in omega arith
+
+-- the length printed for the table: '4' is 52, at byte 15
+pub length-printed-as-table : (carriers given : List ℕ) (r : ℕ) → getD given 15 0 ≡ 52 → page given r ≡ put (blank 30) (toldText (answerTold (Short 1 4)) carriers) → ⊥
+unfolding put putByte digits digitsWithin numberLine shortText restText toldText
+length-printed-as-table carriers given r wrong e = let z : _≡_ {A = ℕ} 52 49 = sym wrong ∙ ap (λ (p : Page). getD (p .bytes) 15 0) e in omega arith
+
+-- 16 printed without its pair: 'answer 16' has ten bytes, 'carriers 0 1' thirteen more
+pub sixteen-printed-bare : (carriers given : List ℕ) → page given 10 ≡ put (blank 30) (toldText (answerTold (Refused (SharedGoal 0 1))) carriers) → ⊥
+unfolding put putByte digits digitsWithin numberLine pairLine restText toldText
+sixteen-printed-bare carriers given e = let z : _≡_ {A = ℕ} 10 23 = ap (λ (p : Page). p .at) e in omega arith
 
 -- 'answer 9' has nine bytes, 'records 2' ten more
 pub nine-printed-without-records : (carriers given : List ℕ) → page given 9 ≡ put (blank 30) (toldText (answerTold (Full 2)) carriers) → ⊥
@@ -92,7 +119,19 @@ printed-book-answered-9 lent given r wrong p =
     let z : _≡_ {A = ℕ} 57 48 = sym wrong ∙ e in
     omega arith
 
--- its text cut after 64 bytes
+-- P1's book with a shared goal answered 6: '6' is 54, at byte 7
+pub shared-goal-printed-as-6 : (lent given : List ℕ) (r : ℕ) → getD given 7 0 ≡ 54 → ProgramPrinted sharedGoalBook lent r given → ⊥
+shared-goal-printed-as-6 lent given r wrong p =
+    let ends : r ≡ length sharedGoalText = p .ends ∙ ap length shared-goal-text in
+    let e : getD given 7 0 ≡ 49 = sym (getD-take r given 7 0 (omega arith)) ∙ ap (λ (text : List ℕ). getD text 7 0) (p .text ∙ shared-goal-text) in
+    let z : _≡_ {A = ℕ} 54 49 = sym wrong ∙ e in
+    omega arith
+
+-- its pair left out
+pub shared-goal-printed-bare : (lent given : List ℕ) → ProgramPrinted sharedGoalBook lent 10 given → ⊥
+shared-goal-printed-bare lent given p = let z : 10 ≡ length sharedGoalText = p .ends ∙ ap length shared-goal-text in omega arith
+
+-- document 01's book cut after 64 bytes
 pub printed-book-cut : (lent given : List ℕ) → ProgramPrinted printedBook lent 64 given → ⊥
 printed-book-cut lent given p = let z : 64 ≡ length printedText = p .ends ∙ ap length printed-book-text in omega arith
 

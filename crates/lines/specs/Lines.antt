@@ -1,6 +1,7 @@
 -- Document 01, 'The book of a job', what the program prints: 'One line `answer` and the number. For 0, then `sum`, `records`, and for
 -- each carrier its number, cost and cells from step 0 to its cost. For 5 a line `carrier i`; for 6 `carriers i j`; for 8 and 9
--- `records r`.'
+-- `records r`.' P1: 16 'directly after 6', 'printed like it'; a 7, which the program never gives, is printed with what it tells, one
+-- line each.
 use Prim.Native.Nat.{ℕ, zero, suc, _+_, _*_}
 use mathlib.Core.Bool.{Bool, cond, _||_}
 use mathlib.Core.List.{List, [], _∷_, _++_}
@@ -31,6 +32,14 @@ carrierWord = 99 ∷ 97 ∷ 114 ∷ 114 ∷ 105 ∷ 101 ∷ 114 ∷ 32 ∷ []
 -- 'carriers '
 abbrev pub carriersWord : List ℕ
 carriersWord = 99 ∷ 97 ∷ 114 ∷ 114 ∷ 105 ∷ 101 ∷ 114 ∷ 115 ∷ 32 ∷ []
+
+-- 'table '
+abbrev pub tableWord : List ℕ
+tableWord = 116 ∷ 97 ∷ 98 ∷ 108 ∷ 101 ∷ 32 ∷ []
+
+-- 'needed '
+abbrev pub neededWord : List ℕ
+neededWord = 110 ∷ 101 ∷ 101 ∷ 100 ∷ 101 ∷ 100 ∷ 32 ∷ []
 
 -- ' cost '
 abbrev pub costWord : List ℕ
@@ -73,14 +82,19 @@ carrierLines team h output (suc n) = carrierLines team h output n ++ carrierLine
 unfoldable pub planText : Told → List ℕ → List ℕ
 planText told carriers = numberLine sumWord (told .sum) ++ numberLine recordsWord (told .records) ++ carriers
 
+-- the first short table, and the length it needed
+unfoldable pub shortText : Told → List ℕ
+shortText told = numberLine tableWord (told .table) ++ numberLine neededWord (told .needed)
+
 -- what follows the first line, by the number
 unfoldable pub restText : Told → List ℕ → List ℕ
 restText told carriers =
     cond (eqb (told .number) 0) (planText told carriers)
     (cond (eqb (told .number) 5) (numberLine carrierWord (told .carrier))
-    (cond (eqb (told .number) 6) (pairLine (told .carrier) (told .other))
+    (cond (eqb (told .number) 6 || eqb (told .number) 16) (pairLine (told .carrier) (told .other))
+    (cond (eqb (told .number) 7) (shortText told)
     (cond (eqb (told .number) 8 || eqb (told .number) 9) (numberLine recordsWord (told .records))
-    [])))
+    []))))
 
 unfoldable pub toldText : Told → List ℕ → List ℕ
 toldText told carriers = numberLine answerWord (told .number) ++ restText told carriers

@@ -10,7 +10,7 @@ ghost use lib.ListN.{length, getD, take};
 ghost use Rattle.book.specs.Parts.{hallIn};
 ghost use Rattle.planner.specs.Answer.{planned, answerTold};
 ghost use Rattle.text.specs.Text.{page, put, digits};
-ghost use Rattle.lines.specs.Lines.{answerWord, space, numberLine, pairLine, cellsText, costLine, carrierLine, carrierLines, carriersText, planText, restText, toldText};
+ghost use Rattle.lines.specs.Lines.{answerWord, space, numberLine, pairLine, cellsText, costLine, carrierLine, carrierLines, carriersText, planText, shortText, restText, toldText};
 ghost use Rattle.lines.specs.Printed.{jobIn, resultText, bookText, bookTables, Printed};
 ghost use Rattle.lines.specs.Program.{ProgramPrinted};
 
@@ -145,6 +145,14 @@ fn put_plan(out: &mut [u8], at: usize, told: Told, team: Team, h: usize, output:
     put_team(out, carriers, team, h, output)
 }
 
+// The first short table, and the length it needed.
+fn put_short(out: &mut [u8], at: usize, told: Told) -> usize
+    ensures { λ r. ⌜ page (now (out .exit)) r ≡ put (page (now (out .entry)) at) (shortText told) ⌝ }
+{
+    let needed = put_line(out, at, b"table ", told.table);
+    put_line(out, needed, b"needed ", told.needed)
+}
+
 // What follows the first line.
 fn put_rest(out: &mut [u8], at: usize, told: Told, team: Team, h: usize, output: &[u8]) -> usize
     ensures { λ r. ⌜ page (now (out .exit)) r ≡ put (page (now (out .entry)) at) (restText told (carriersText team h (now (output .entry)))) ⌝ }
@@ -158,6 +166,12 @@ fn put_rest(out: &mut [u8], at: usize, told: Told, team: Team, h: usize, output:
     }
     if number == 6 {
         return put_pair(out, at, told.carrier, told.other);
+    }
+    if number == 16 {
+        return put_pair(out, at, told.carrier, told.other);
+    }
+    if number == 7 {
+        return put_short(out, at, told);
     }
     if number == 8 {
         return put_line(out, at, b"records ", told.records);

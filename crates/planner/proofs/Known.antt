@@ -1,25 +1,24 @@
--- What the planner's number tells of the job: 1 to 6 refuse it, the others come of an accepted job, and 7 with a table that is too short.
--- Assumes nothing.
+-- What the planner's number tells of the job: 1 to 6 and 16 refuse it, the others come of an accepted job. Assumes nothing.
 use Prim.Native.Nat.{ℕ, _≤_}
 use native.Mathlib.Omega.{arith}
-use mathlib.Core.Bool.{Bool, true, false}
-use mathlib.Core.Option.{none, some}
-use mathlib.Core.Path.{_≡_, refl, sym}
+use mathlib.Core.Logic.{_⊎_, inl, inr}
+use mathlib.Core.Option.{Option, none, some}
+use mathlib.Core.Path.{_≡_, refl, sym, subst}
 use Rattle.job.specs.Job.{Job, wrongCapacity}
-use Rattle.job.specs.Verdict.{verdictTold, judgeWith, ifAccepted}
-use Rattle.job.specs.declared.Verdict.{Verdict}
-use Rattle.job.specs.declared.Verdict.the-variants.{Accepted, WrongGrid, WrongBytes, WrongLimits, WrongCount, WrongEnds, SharedEnds}
+use Rattle.job.specs.Verdict.{verdictTold, judgeWith}
+use Rattle.job.specs.declared.Verdict.the-variants.{Accepted}
+use Rattle.job.proofs.Refused.{Refusing, accepts-or-not, refused-numbered, if-accepted, if-refused}
 use Rattle.search.specs.Search.{Outcome, done, full}
 use Rattle.tree.specs.Tree.{Node, tree}
-use Rattle.tables.specs.Tables.{Tables, shortTable}
-use Rattle.planner.specs.Answer.{Result, searched, enough, planned}
+use Rattle.tables.specs.Tables.{Tables, firstShort}
+use Rattle.planner.specs.Answer.{Result, answerTold, searched, ifLong, enough, planned}
 use Rattle.planner.specs.declared.Answer.{Answer}
 use Rattle.planner.specs.declared.Answer.the-variants.{Plan, Refused, Short, NoPlan, Full}
 
 unfoldable pub Known : Job → ℕ → Tables → Answer → Type 0
 Known job n ts (Plan s r) = judgeWith (wrongCapacity n) job ≡ Accepted
-Known job n ts (Refused v) = (v ≡ judgeWith (wrongCapacity n) job) × (1 ≤ verdictTold v .number) × (verdictTold v .number ≤ 6)
-Known job n ts Short = (judgeWith (wrongCapacity n) job ≡ Accepted) × (shortTable job n ts ≡ true)
+Known job n ts (Refused v) = (v ≡ judgeWith (wrongCapacity n) job) × Refusing (verdictTold v .number)
+Known job n ts (Short t l) = judgeWith (wrongCapacity n) job ≡ Accepted
 Known job n ts (NoPlan r) = judgeWith (wrongCapacity n) job ≡ Accepted
 Known job n ts (Full r) = judgeWith (wrongCapacity n) job ≡ Accepted
 
@@ -34,22 +33,29 @@ module _ (job : Job) (n : ℕ) (ts : Tables) where
   searched-known (full r) e = e
 
   enough-known : judgeWith (wrongCapacity n) job ≡ Accepted → KnownOf job n ts (enough job n ts)
-  unfolding Known enough
-  enough-known e = go (shortTable job n ts) refl
+  unfolding Known enough ifLong
+  enough-known e = go (firstShort job n ts)
     where
-      go : (b : Bool) → shortTable job n ts ≡ b → KnownOf job n ts (elim b [ true ↦ record { answer = Short; tables = ts } | false ↦ searched job n ts (tree job n) ])
-      go true s = (e, s)
-      go false s = searched-known (tree job n) e
+      go : (o : Option ℕ) → KnownOf job n ts (ifLong job n ts o (searched job n ts (tree job n)))
+      go (some t) = e
+      go none = searched-known (tree job n) e
 
   pub known : Known job n ts (planned job n ts .answer)
-  unfolding Known planned ifAccepted
-  known = go (judgeWith (wrongCapacity n) job) refl
+  unfolding Known planned
+  known = go (accepts-or-not (judgeWith (wrongCapacity n) job))
     where
-      go : (v : Verdict) → judgeWith (wrongCapacity n) job ≡ v → KnownOf job n ts (ifAccepted v (enough job n ts) (record { answer = Refused v; tables = ts }))
-      go Accepted e = enough-known e
-      go WrongGrid e = (sym e, omega arith, omega arith)
-      go WrongBytes e = (sym e, omega arith, omega arith)
-      go WrongLimits e = (sym e, omega arith, omega arith)
-      go WrongCount e = (sym e, omega arith, omega arith)
-      go (WrongEnds i) e = (sym e, omega arith, omega arith)
-      go (SharedEnds i j) e = (sym e, omega arith, omega arith)
+      go : (judgeWith (wrongCapacity n) job ≡ Accepted) ⊎ (judgeWith (wrongCapacity n) job ≡ Accepted → ⊥) → KnownOf job n ts (planned job n ts)
+      go (inl e) = subst (KnownOf job n ts) (sym (if-accepted (judgeWith (wrongCapacity n) job) (enough job n ts) (record { answer = Refused (judgeWith (wrongCapacity n) job); tables = ts }) e)) (enough-known e)
+      go (inr other) =
+          subst (KnownOf job n ts) (sym (if-refused (judgeWith (wrongCapacity n) job) (enough job n ts) (record { answer = Refused (judgeWith (wrongCapacity n) job); tables = ts }) other))
+          (refl, refused-numbered (judgeWith (wrongCapacity n) job) other)
+
+-- 0 to 9, or 16
+pub numbered : (job : Job) (n : ℕ) (ts : Tables) (answer : Answer) → Known job n ts answer → (answerTold answer .number ≤ 9) ⊎ (answerTold answer .number ≡ 16)
+unfolding Known Refusing
+numbered job n ts (Plan s r) k = inl (omega arith)
+numbered job n ts (Refused v) (is, inl (low, high)) = inl (omega arith)
+numbered job n ts (Refused v) (is, inr e) = inr e
+numbered job n ts (Short t l) k = inl (omega arith)
+numbered job n ts (NoPlan r) k = inl (omega arith)
+numbered job n ts (Full r) k = inl (omega arith)

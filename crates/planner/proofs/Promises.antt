@@ -1,23 +1,25 @@
--- What the definitions give for any job, any N and any tables keeps the promises: checks 1 to 7 promise nothing, and after them the
--- tree's own promises are those of the answer. Assumes nothing.
+-- What the definitions give for any job, any N and any tables keeps the promises: a refused job promises nothing, 7 that the table it tells
+-- is the first that is short, and after them the tree's own promises are those of the answer. Assumes nothing.
 use Prim.Native.Nat.{ℕ, _≤_, _<_}
 use native.Mathlib.Omega.{arith}
 use native.Mathlib.Decide.{decLe}
 use mathlib.Core.Path.{_≡_, refl, sym, subst}
-use mathlib.Core.Bool.{Bool, true, false}
+use mathlib.Core.Logic.{_⊎_, inl, inr}
 use mathlib.Core.Option.{Option, none, some}
 use Rattle.job.specs.Job.{Job, wrongCapacity}
-use Rattle.job.specs.Verdict.{judgeWith, ifAccepted}
-use Rattle.job.specs.declared.Verdict.{Verdict}
-use Rattle.job.specs.declared.Verdict.the-variants.{Accepted, WrongGrid, WrongBytes, WrongLimits, WrongCount, WrongEnds, SharedEnds}
+use Rattle.job.specs.Verdict.{judgeWith}
+use Rattle.job.specs.declared.Verdict.the-variants.{Accepted}
 use Rattle.job.proofs.Due.{accepted-exactly}
+use Rattle.job.proofs.Refused.{accepts-or-not, if-accepted, if-refused}
 use Rattle.search.specs.Search.{Outcome, done, full}
 use Rattle.tree.specs.Tree.{Node, tree}
 use Rattle.tree.specs.Promises.{NeedIs}
 use Rattle.tree.proofs.Promises.{tree-least, tree-none, tree-need}
-use Rattle.tables.specs.Tables.{Tables, shortTable, workedOn, withPlan}
-use Rattle.planner.specs.Answer.{Result, searched, enough, planned}
+use Rattle.tables.specs.Tables.{Tables, firstShort, workedOn, withPlan}
+use Rattle.tables.proofs.LongTables.{LengthsFact, lengths-fact}
+use Rattle.planner.specs.Answer.{Result, searched, ifLong, enough, planned}
 use Rattle.planner.specs.Promises.{Needed, Promised}
+use Rattle.planner.specs.declared.Answer.the-variants.{Refused}
 
 abbrev Kept : Job → ℕ → Tables → Result → Type 0
 Kept job capacity ts r = Promised job capacity ts (r .answer) (r .tables)
@@ -57,22 +59,20 @@ module _ (job : Job) (capacity : ℕ) (ts : Tables) (one : 1 ≤ capacity) where
   searched-kept (full r) e = short-of r e
 
   enough-kept : Kept job capacity ts (enough job capacity ts)
-  unfolding enough Promised
-  enough-kept = go (shortTable job capacity ts)
+  unfolding enough ifLong Promised LengthsFact
+  enough-kept = go (firstShort job capacity ts) (lengths-fact job capacity ts)
     where
-      go : (b : Bool) → Kept job capacity ts (elim b [ true ↦ record { answer = Rattle.planner.specs.declared.Answer.the-variants.Short; tables = ts } | false ↦ searched job capacity ts (tree job capacity) ])
-      go true = tt
-      go false = searched-kept (tree job capacity) refl
+      go : (o : Option ℕ) → LengthsFact job capacity ts o → Kept job capacity ts (ifLong job capacity ts o (searched job capacity ts (tree job capacity)))
+      go (some t) f = (f, refl)
+      go none f = searched-kept (tree job capacity) refl
 
 pub planned-promised : (job : Job) (capacity : ℕ) (ts : Tables) → Kept job capacity ts (planned job capacity ts)
-unfolding planned ifAccepted Promised
-planned-promised job capacity ts = go (judgeWith (wrongCapacity capacity) job) refl
+unfolding planned Promised
+planned-promised job capacity ts = go (accepts-or-not (judgeWith (wrongCapacity capacity) job))
   where
-    go : (v : Verdict) → judgeWith (wrongCapacity capacity) job ≡ v → Kept job capacity ts (ifAccepted v (enough job capacity ts) (record { answer = Rattle.planner.specs.declared.Answer.the-variants.Refused v; tables = ts }))
-    go Accepted e = enough-kept job capacity ts (accepted-exactly job capacity .0 e .1 .least)
-    go WrongGrid e = tt
-    go WrongBytes e = tt
-    go WrongLimits e = tt
-    go WrongCount e = tt
-    go (WrongEnds i) e = tt
-    go (SharedEnds i j) e = tt
+    go : (judgeWith (wrongCapacity capacity) job ≡ Accepted) ⊎ (judgeWith (wrongCapacity capacity) job ≡ Accepted → ⊥) → Kept job capacity ts (planned job capacity ts)
+    go (inl e) =
+        subst (Kept job capacity ts) (sym (if-accepted (judgeWith (wrongCapacity capacity) job) (enough job capacity ts) (record { answer = Refused (judgeWith (wrongCapacity capacity) job); tables = ts }) e))
+        (enough-kept job capacity ts (accepted-exactly job capacity .0 e .1 .least))
+    go (inr other) =
+        subst (Kept job capacity ts) (sym (if-refused (judgeWith (wrongCapacity capacity) job) (enough job capacity ts) (record { answer = Refused (judgeWith (wrongCapacity capacity) job); tables = ts }) other)) tt

@@ -14,13 +14,13 @@ use Rattle.routes.specs.Best.{cheaper, better, bestOf, inFront, bestWay, bestRo
 use Rattle.clashes.specs.Chosen.{written, meets, swaps, happens, overPairs, atStep, candidates, orClear, chosen}
 use Rattle.search.specs.Search.{prefer, takeLeast, run, search}
 use Rattle.tree.specs.Plan.{total}
-use Rattle.tables.specs.Tables.{shortTable, workedOn, planWritten, withPlan}
+use Rattle.tables.specs.Tables.{firstShort, workedOn, planWritten, withPlan}
 use Rattle.tree.specs.Tree.{routeUnder, withRoute, freeRoutes, rootOf, root, nodeSum, clashOf, isClear, nodeClear, barOne, barTwo, childWith, child, kidsFor, kids, tree}
-use Rattle.planner.specs.Answer.{searched, enough, planned}
+use Rattle.planner.specs.Answer.{searched, ifLong, enough, planned}
 use Rattle.planner.specs.Stars.{asked, given, stars, lastJob}
 
 worked-hold : map given (lastJob ∷ stars) ≡ map asked (lastJob ∷ stars)
-unfolding range sumTo only keep anyOf firstOf each wrongSide wrongGrid wrongByte wrongBytes isOpen onGrid cellAt landing reachFrom reach wrongLimits wrongCapacity wrongCount wrongEnds firstWrong share pairs firstShared refuseIf endsVerdict sharedVerdict judgeWith ifAccepted stepCost cost barsFor barsCell barsWay mayStand mayTurn cheaper better bestOf inFront bestWay bestRoute written meets swaps happens overPairs atStep candidates orClear chosen prefer takeLeast run search total shortTable zeroed workedOn planWritten withPlan routeUnder withRoute freeRoutes rootOf root nodeSum clashOf isClear nodeClear barOne barTwo childWith child kidsFor kids tree searched enough planned stars lastJob
+unfolding range sumTo only keep anyOf firstOf each wrongSide wrongGrid wrongByte wrongBytes isOpen onGrid cellAt landing reachFrom reach wrongLimits wrongCapacity wrongCount wrongEnds firstWrong share pairs firstShared refuseIf endsVerdict sharedVerdict judgeWith ifAccepted stepCost cost barsFor barsCell barsWay mayStand mayTurn cheaper better bestOf inFront bestWay bestRoute written meets swaps happens overPairs atStep candidates orClear chosen prefer takeLeast run search total firstShort zeroed workedOn planWritten withPlan routeUnder withRoute freeRoutes rootOf root nodeSum clashOf isClear nodeClear barOne barTwo childWith child kidsFor kids tree searched ifLong enough planned stars lastJob
 worked-hold = refl
 
 pub stars-hold : map given stars ≡ map asked stars

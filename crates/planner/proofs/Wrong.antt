@@ -4,7 +4,7 @@ use Prim.Native.Nat.{ℕ}
 use native.Mathlib.Omega.{arith}
 use mathlib.Core.Path.{_≡_, sym, ap, _∙_}
 use mathlib.Core.List.{List, [], _∷_}
-use lib.ListN.{getD}
+use lib.ListN.{getD, replicate}
 use Rattle.lists.specs.Lists.{range, sumTo, only, keep, anyOf, firstOf, each, refuseIf}
 use Rattle.lent.specs.Lent.{zeroed}
 use Rattle.hall.specs.Hall.{wrongSide, wrongGrid, wrongByte, wrongBytes, isOpen}
@@ -17,9 +17,9 @@ use Rattle.routes.specs.Best.{cheaper, better, bestOf, inFront, bestWay, bestRo
 use Rattle.clashes.specs.Chosen.{written, meets, swaps, happens, overPairs, atStep, candidates, orClear, chosen}
 use Rattle.search.specs.Search.{prefer, takeLeast, run, search}
 use Rattle.tree.specs.Plan.{total}
-use Rattle.tables.specs.Tables.{Tables, shortTable, workedOn, planWritten, withPlan}
+use Rattle.tables.specs.Tables.{Tables, firstShort, workedOn, planWritten, withPlan}
 use Rattle.tree.specs.Tree.{routeUnder, withRoute, freeRoutes, rootOf, root, nodeSum, clashOf, isClear, nodeClear, tree}
-use Rattle.planner.specs.Answer.{Result, searched, enough, planned}
+use Rattle.planner.specs.Answer.{Result, answerTold, searched, ifLong, enough, planned}
 use Rattle.planner.specs.Stars.{Star, starJob, starTables, Seen, asked, given, stars, lastJob}
 use Rattle.planner.proofs.Stars.{stars-hold}
 
@@ -57,5 +57,58 @@ lent = record { columns = 0 ∷ 0 ∷ 0 ∷ 0 ∷ 0 ∷ 0 ∷ 0 ∷ 0 ∷ []; pl
 
 -- the layer of the last step not cleared: the mark of 'no way' is left on cell 1
 pub last-layer-not-cleared : (r : Result) → r ≡ planned standing 1 lent → getD (r .tables .layers) 1 0 ≡ 127 → ⊥
-unfolding range sumTo only keep anyOf firstOf each wrongSide wrongGrid wrongByte wrongBytes isOpen onGrid cellAt landing reachFrom reach wrongLimits wrongCapacity wrongCount wrongEnds firstWrong share pairs firstShared refuseIf endsVerdict sharedVerdict judgeWith ifAccepted stepCost cost barsFor mayStand mayTurn cheaper better bestOf inFront bestWay bestRoute written meets swaps happens overPairs atStep candidates orClear chosen prefer takeLeast run search total shortTable zeroed workedOn planWritten withPlan routeUnder withRoute freeRoutes rootOf root nodeSum clashOf isClear nodeClear tree searched enough planned
+unfolding range sumTo only keep anyOf firstOf each wrongSide wrongGrid wrongByte wrongBytes isOpen onGrid cellAt landing reachFrom reach wrongLimits wrongCapacity wrongCount wrongEnds firstWrong share pairs firstShared refuseIf endsVerdict sharedVerdict judgeWith ifAccepted stepCost cost barsFor mayStand mayTurn cheaper better bestOf inFront bestWay bestRoute written meets swaps happens overPairs atStep candidates orClear chosen prefer takeLeast run search total firstShort zeroed workedOn planWritten withPlan routeUnder withRoute freeRoutes rootOf root nodeSum clashOf isClear nodeClear tree searched ifLong enough planned
 last-layer-not-cleared r e wrong = let z : _≡_ {A = ℕ} 127 0 = sym wrong ∙ ap (λ (x : Result). getD (x .tables .layers) 1 0) e in omega arith
+
+-- ---- 7, of two open cells in a row, one carrier, 0→1, k 0, H 1, N 3: the columns need 24 entries, the plans 6, the layers 4, the output 2
+
+abbrev passing : Job
+passing =
+    record {
+      hall = record { width = 2; height = 1; bytes = 46 ∷ 46 ∷ [] };
+      count = 1;
+      startOf = λ i. 0;
+      goalOf = λ i. 1;
+      delay = 0;
+      horizon = 1;
+    }
+
+-- tables of so many zeros
+abbrev zeros : ℕ → ℕ → ℕ → ℕ → Tables
+zeros columns plans layers output = record { columns = replicate columns 0; plans = replicate plans 0; layers = replicate layers 0; output = replicate output 0 }
+
+-- the last short table told, where all are
+pub last-short-told : (r : Result) → r ≡ planned passing 3 (zeros 0 0 0 0) → answerTold (r .answer) .table ≡ 3 → ⊥
+unfolding range anyOf firstOf each wrongSide wrongGrid wrongByte wrongBytes isOpen wrongLimits wrongCapacity wrongCount wrongEnds firstWrong share pairs firstShared refuseIf endsVerdict sharedVerdict judgeWith ifAccepted firstShort ifLong enough planned
+last-short-told r e wrong = let z : _≡_ {A = ℕ} 3 0 = sym wrong ∙ ap (λ (x : Result). answerTold (x .answer) .table) e in omega arith
+
+-- the columns' length told in bytes: they are 16-bit
+pub columns-told-in-bytes : (r : Result) → r ≡ planned passing 3 (zeros 23 6 4 2) → answerTold (r .answer) .needed ≡ 48 → ⊥
+unfolding range anyOf firstOf each wrongSide wrongGrid wrongByte wrongBytes isOpen wrongLimits wrongCapacity wrongCount wrongEnds firstWrong share pairs firstShared refuseIf endsVerdict sharedVerdict judgeWith ifAccepted firstShort ifLong enough planned
+columns-told-in-bytes r e wrong = let z : _≡_ {A = ℕ} 48 24 = sym wrong ∙ ap (λ (x : Result). answerTold (x .answer) .needed) e in omega arith
+
+-- the length of another table, of the layers for the plans
+pub layers-length-told-for-the-plans : (r : Result) → r ≡ planned passing 3 (zeros 24 5 4 2) → answerTold (r .answer) .needed ≡ 4 → ⊥
+unfolding range anyOf firstOf each wrongSide wrongGrid wrongByte wrongBytes isOpen wrongLimits wrongCapacity wrongCount wrongEnds firstWrong share pairs firstShared refuseIf endsVerdict sharedVerdict judgeWith ifAccepted firstShort ifLong enough planned
+layers-length-told-for-the-plans r e wrong = let z : _≡_ {A = ℕ} 4 6 = sym wrong ∙ ap (λ (x : Result). answerTold (x .answer) .needed) e in omega arith
+
+-- the output's length without the + 1 of H
+pub last-step-not-counted : (r : Result) → r ≡ planned passing 3 (zeros 24 6 4 1) → answerTold (r .answer) .needed ≡ 1 → ⊥
+unfolding range anyOf firstOf each wrongSide wrongGrid wrongByte wrongBytes isOpen wrongLimits wrongCapacity wrongCount wrongEnds firstWrong share pairs firstShared refuseIf endsVerdict sharedVerdict judgeWith ifAccepted firstShort ifLong enough planned
+last-step-not-counted r e wrong = let z : _≡_ {A = ℕ} 1 2 = sym wrong ∙ ap (λ (x : Result). answerTold (x .answer) .needed) e in omega arith
+
+-- 7 given before 16: no table is lent to two carriers with one goal
+abbrev meeting : Job
+meeting =
+    record {
+      hall = record { width = 2; height = 1; bytes = 46 ∷ 46 ∷ [] };
+      count = 2;
+      startOf = λ i. i;
+      goalOf = λ i. 1;
+      delay = 0;
+      horizon = 1;
+    }
+
+pub seven-given-before-16 : (r : Result) → r ≡ planned meeting 3 (zeros 0 0 0 0) → answerTold (r .answer) .number ≡ 7 → ⊥
+unfolding range anyOf firstOf each wrongSide wrongGrid wrongByte wrongBytes isOpen wrongLimits wrongCapacity wrongCount wrongEnds firstWrong share pairs firstShared refuseIf endsVerdict sharedVerdict judgeWith ifAccepted firstShort ifLong enough planned
+seven-given-before-16 r e wrong = let z : _≡_ {A = ℕ} 7 16 = sym wrong ∙ ap (λ (x : Result). answerTold (x .answer) .number) e in omega arith

@@ -7,7 +7,7 @@ use Rattle.job.specs.Job.{Job}
 use Rattle.tree.specs.Plan.{Routes}
 use Rattle.tree.specs.Tree.{Node}
 use Rattle.tree.specs.Promises.{LeastPlan, NoneExists, NeedIs}
-use Rattle.tables.specs.Tables.{Tables, planWritten}
+use Rattle.tables.specs.Tables.{Tables, neededLength, FirstShort, planWritten}
 use Rattle.planner.specs.declared.Answer.{Answer}
 use Rattle.planner.specs.declared.Answer.the-variants.{Plan, Refused, Short, NoPlan, Full}
 
@@ -19,6 +19,6 @@ Needed job need = (end : Option Node) × NeedIs job need end
 unfoldable pub Promised : Job → ℕ → Tables → Answer → Tables → Type 0
 Promised job capacity before (Plan s r) after = (rs : Routes) × LeastPlan job rs s × (after .output ≡ planWritten job rs (before .output)) × (r ≤ capacity) × Needed job r
 Promised job capacity before (Refused v) after = Unit {0}
-Promised job capacity before Short after = Unit {0}
+Promised job capacity before (Short t l) after = FirstShort job capacity before t × (l ≡ neededLength job capacity t)
 Promised job capacity before (NoPlan r) after = NoneExists job × (r ≤ capacity) × Needed job r
 Promised job capacity before (Full r) after = (r ≡ capacity) × (need : ℕ) × (capacity < need) × Needed job need

@@ -4,7 +4,7 @@ use Prim.Native.Nat.{ℕ, _+_, _-_, _*_, _≤_, _<_}
 use mathlib.Core.Path.{_≡_}
 use mathlib.Core.Bool.{true, false}
 use mathlib.Core.List.{List, [], _++_}
-use mathlib.Core.Option.{none, some}
+use mathlib.Core.Option.{Option, none, some}
 use lib.ListN.{length, set}
 use Rattle.lent.specs.Lent.{zeroed}
 use Rattle.job.specs.Job.{Job, planLength}
@@ -26,6 +26,8 @@ use Rattle.planner.specs.declared.Turn.{Turn}
 use Rattle.planner.specs.declared.Turn.the-variants.{Spent as TurnSpent, Clear as TurnClear, Full as TurnFull, On}
 use Rattle.planner.specs.declared.End.{End}
 use Rattle.planner.specs.declared.End.the-variants.{Spent, Clear, Full as EndFull}
+use Rattle.planner.specs.declared.Lengths.{Lengths}
+use Rattle.planner.specs.declared.Lengths.the-variants.{Enough, Lacking}
 
 -- all numbers are small
 pub record Limits (task : Task) : Type 0 where
@@ -144,6 +146,11 @@ pub record Cleared (task : Task) (columns plans layers columns' plans' layers' :
   pub columns-cleared : columns' ≡ zeroed (columnsLength (task .capacity)) columns
   pub plans-cleared : plans' ≡ zeroed (plansLength (jobIn task) (task .capacity)) plans
   pub layers-cleared : layers' ≡ zeroed (layersLength (jobIn task)) layers
+
+-- the first short table that the definitions find, as the code tells it
+unfoldable pub lengthsOf : (ℕ → ℕ) → Option ℕ → Lengths
+lengthsOf needed none = Enough
+lengthsOf needed (some t) = Lacking t (needed t)
 
 -- all tables are long enough
 pub record Roomy (task : Task) (columns plans layers output : List ℕ) : Type 0 where

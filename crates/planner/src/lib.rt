@@ -16,15 +16,15 @@ ghost use Rattle.tree.specs.Plan.{cellsOf};
 ghost use Rattle.tree.specs.Tree.{clashOf, tree};
 ghost use Rattle.children.specs.Steps.{jobOn, Ready, Kept, BarSet};
 ghost use Rattle.tables.specs.State.{routesIn, stretchAt, nodeAt, Sound};
-ghost use Rattle.tables.specs.Tables.{columnsLength, plansLength, layersLength, shortTable};
+ghost use Rattle.tables.specs.Tables.{columnsLength, plansLength, layersLength, neededLength, firstShort};
 ghost use Rattle.planner.specs.Post.{Planned};
-ghost use Rattle.planner.specs.Steps.{jobIn, Limits, Placed, OneFact, TwoFact, oneOf, twoOf, stayBars, crossBars, BarsFit, PartFact, SplitFact, TurnFact, EndFact, treeFrom, EndPlaced, ToldFact, Cleared, Roomy, RanFact};
+ghost use Rattle.planner.specs.Steps.{jobIn, Limits, Placed, OneFact, TwoFact, oneOf, twoOf, stayBars, crossBars, BarsFit, PartFact, SplitFact, TurnFact, EndFact, treeFrom, EndPlaced, ToldFact, Cleared, Roomy, RanFact, lengthsOf};
 
 // What the planner says.
 pub enum Answer {
     Plan { sum: usize, records: usize },
     Refused(Verdict),
-    Short,
+    Short { table: usize, needed: usize },
     NoPlan { records: usize },
     Full { records: usize },
 }
@@ -325,22 +325,37 @@ fn run(
     answer
 }
 
-// Answer 7: 'a lent table is too short'.
-fn short_table(task: Task, columns: &[u16], plans: &[u8], layers: &[u8], output: &[u8]) -> bool
+// What the lengths of the lent tables say.
+enum Lengths {
+    Enough,
+    Lacking { table: usize, needed: usize },
+}
+
+// Answer 7: 'the first short table, in document 01's order' (0 columns, 1 plans, 2 layers, 3 output) 'and the length it needed'.
+fn first_short(task: Task, columns: &[u16], plans: &[u8], layers: &[u8], output: &[u8]) -> Lengths
     requires { ⌜ Limits task ⌝ }
-    ensures { λ r. ⌜ r ≡ shortTable (jobIn task) (task .capacity) (record { columns = now (columns .entry); plans = now (plans .entry); layers = now (layers .entry); output = now (output .entry) }) ⌝ }
+    ensures { λ r. ⌜ r ≡ lengthsOf (neededLength (jobIn task) (task .capacity)) (firstShort (jobIn task) (task .capacity) (record { columns = now (columns .entry); plans = now (plans .entry); layers = now (layers .entry); output = now (output .entry) })) ⌝ }
 {
+    let needed = tables::COLUMNS * task.capacity;
+    if columns.len() < needed {
+        return Lengths::Lacking { table: 0, needed };
+    }
     let size = children::stretch_of(task);
-    if columns.len() < tables::COLUMNS * task.capacity {
-        return true;
+    let needed = task.capacity * size;
+    if plans.len() < needed {
+        return Lengths::Lacking { table: 1, needed };
     }
-    if plans.len() < task.capacity * size {
-        return true;
+    let needed = (task.horizon + 1) * (task.width * task.height);
+    if layers.len() < needed {
+        return Lengths::Lacking { table: 2, needed };
     }
-    if layers.len() < (task.horizon + 1) * (task.width * task.height) {
-        return true;
+    if output.len() < size {
+        return Lengths::Lacking {
+            table: 3,
+            needed: size,
+        };
     }
-    output.len() < size
+    Lengths::Enough
 }
 
 // Any job and any lent tables: a plan or a numbered refusal.
@@ -369,8 +384,9 @@ pub fn plan(
             capacity: n,
             team,
         };
-        if short_table(task, columns, plans, layers, output) {
-            return Answer::Short;
+        let lengths = first_short(task, columns, plans, layers, output);
+        if let Lengths::Lacking { table, needed } = lengths {
+            return Answer::Short { table, needed };
         }
         return run(hall, task, columns, plans, layers, output);
     }

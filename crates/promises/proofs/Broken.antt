@@ -1,19 +1,21 @@
--- Document 01's broken planners and checks: none keeps the promise that document 01 names for it. Each law takes any planner, or any two
--- checks, and that one line of specs/Promises.antt; nothing is known of how they work. What the line says at a worked job is read off our
--- own planner, which keeps it (proofs/Kept.antt) and whose answer there is known (`stars-hold`). Assumes nothing.
+-- Document 01's broken planners and checks, and P1's wrong refusals: none keeps the promise that the document names for it. Each law
+-- takes any planner, or any two checks, and that one line of specs/Promises.antt; nothing is known of how they work. What the line
+-- says at a worked job is read off our own planner, which keeps it (proofs/Kept.antt) and whose answer there is known (`stars-hold`).
+-- Assumes nothing.
 use Prim.Native.Nat.{ℕ, _<_}
 use native.Mathlib.Omega.{arith}
 use mathlib.Core.Path.{_≡_, refl, sym, ap, subst, _∙_}
-use mathlib.Core.Bool.{false}
 use mathlib.Core.List.{List, [], List·Memᴰ}
+use mathlib.Core.Logic.{_⊎_, inl, inr}
 use mathlib.Core.Option.{none}
-use lib.ListN.{getD}
+use lib.ListN.{length, getD}
 use Rattle.lists.specs.Lists.{range, sumTo, only, keep, anyOf, firstOf, each, Every, refuseIf}
 use Rattle.lists.proofs.Every.{every-member}
 use Rattle.hall.specs.Hall.{wrongSide, wrongGrid, wrongByte, wrongBytes, isOpen}
 use Rattle.hall.specs.Moves.{onGrid, cellAt, landing, reachFrom, reach, mayFollow}
-use Rattle.job.specs.Job.{Job, planCell, wrongLimits, wrongCapacity, wrongCount, wrongEnds, firstWrong, share, pairs, firstShared}
-use Rattle.job.specs.Told.{bare}
+use Rattle.job.specs.Job.{Job, planLength, planCell, wrongLimits, wrongCapacity, wrongCount, wrongEnds, firstWrong, share, pairs, firstShared}
+use Rattle.job.specs.Due.{RightJob, RightCapacity, NoneShare, Due}
+use Rattle.job.specs.Told.{bare, tooShort}
 use Rattle.job.specs.Verdict.{endsVerdict, sharedVerdict, judgeWith, judge, ifAccepted}
 use Rattle.job.specs.declared.Fault.{Fault}
 use Rattle.job.specs.declared.Told.{Told}
@@ -29,14 +31,14 @@ use Rattle.checks.proofs.Broken.{crossing, followed, oneCell, standing, always-
 use Rattle.checks.proofs.Demand.{plan-check-exact, zero-is-lawful, zero-is-safe}
 use Rattle.tree.specs.Tree.{Node, routeUnder, withRoute, freeRoutes, rootOf, root, clashOf, barOne, barTwo, childWith, child, kidsFor, kids}
 use Rattle.tree.proofs.Promises.{need-one}
-use Rattle.tables.specs.Tables.{Tables, shortTable, planWritten}
-use Rattle.tables.proofs.LongTables.{long-exact}
+use Rattle.tables.specs.Tables.{Tables, neededLength, firstShort, FirstShort, planWritten}
+use Rattle.tables.proofs.LongTables.{short-not-long, long-exact, short-one}
 use Rattle.planner.specs.Answer.{planned}
 use Rattle.planner.specs.Stars.{Star, starJob, starTables, Seen, asked, given, stars, lastJob}
 use Rattle.planner.proofs.Promises.{planned-promised}
 use Rattle.planner.proofs.Stars.{stars-hold}
-use Rattle.job.proofs.Due.{accepted-exactly, checks-accept-exactly}
-use Rattle.promises.specs.Promises.{Planner, Check, Runs, ZeroIsLeast, EightIsNone, NineByNeed, CheckIsExact}
+use Rattle.job.proofs.Due.{accepted-exactly, checks-accept-exactly, due-six, due-sixteen}
+use Rattle.promises.specs.Promises.{Planner, Check, Runs, RefusesFirst, ShortIsSeven, TablesLeft, ZeroIsLeast, EightIsNone, NineByNeed, CheckIsExact, ShortPlanIsSeven}
 use Rattle.promises.specs.Ours.{OurPlanner}
 use Rattle.promises.proofs.Kept.{zero-is-least, nine-by-need}
 use Rattle.promises.proofs.Passing.{same-cells, written-passes}
@@ -66,26 +68,26 @@ nothing = record { told = bare 0; output = [] }
 abbrev RunsAt : Star → Type 0
 RunsAt s = Runs (starJob s) (s .capacity) (starTables s)
 
-runs-by : (s : Star) → judgeWith (wrongCapacity (s .capacity)) (starJob s) ≡ Accepted → shortTable (starJob s) (s .capacity) (starTables s) ≡ false → RunsAt s
+runs-by : (s : Star) → judgeWith (wrongCapacity (s .capacity)) (starJob s) ≡ Accepted → firstShort (starJob s) (s .capacity) (starTables s) ≡ none → RunsAt s
 runs-by s accepted long =
     let (right, capacity) = accepted-exactly (starJob s) (s .capacity) .0 accepted in
     record { right = right; capacity = capacity; long = long-exact (starJob s) (s .capacity) (starTables s) .0 long }
 
 -- 3 by 3, 3→5 and 1→7, k 0, H 4: with N 3 a plan of sum 5 with 3 records, with N 2 answer 9; one cell; and document 01's last job
 runs-first : RunsAt (starAt 0)
-unfolding range anyOf firstOf each wrongSide wrongGrid wrongByte wrongBytes isOpen wrongLimits wrongCapacity wrongCount wrongEnds firstWrong share pairs firstShared refuseIf endsVerdict sharedVerdict judgeWith shortTable stars
+unfolding range anyOf firstOf each wrongSide wrongGrid wrongByte wrongBytes isOpen wrongLimits wrongCapacity wrongCount wrongEnds firstWrong share pairs firstShared refuseIf endsVerdict sharedVerdict judgeWith firstShort stars
 runs-first = runs-by (starAt 0) refl refl
 
 runs-second : RunsAt (starAt 1)
-unfolding range anyOf firstOf each wrongSide wrongGrid wrongByte wrongBytes isOpen wrongLimits wrongCapacity wrongCount wrongEnds firstWrong share pairs firstShared refuseIf endsVerdict sharedVerdict judgeWith shortTable stars
+unfolding range anyOf firstOf each wrongSide wrongGrid wrongByte wrongBytes isOpen wrongLimits wrongCapacity wrongCount wrongEnds firstWrong share pairs firstShared refuseIf endsVerdict sharedVerdict judgeWith firstShort stars
 runs-second = runs-by (starAt 1) refl refl
 
 runs-seventh : RunsAt (starAt 6)
-unfolding range anyOf firstOf each wrongSide wrongGrid wrongByte wrongBytes isOpen wrongLimits wrongCapacity wrongCount wrongEnds firstWrong share pairs firstShared refuseIf endsVerdict sharedVerdict judgeWith shortTable stars
+unfolding range anyOf firstOf each wrongSide wrongGrid wrongByte wrongBytes isOpen wrongLimits wrongCapacity wrongCount wrongEnds firstWrong share pairs firstShared refuseIf endsVerdict sharedVerdict judgeWith firstShort stars
 runs-seventh = runs-by (starAt 6) refl refl
 
 runs-last : RunsAt lastJob
-unfolding range anyOf firstOf each wrongSide wrongGrid wrongByte wrongBytes isOpen wrongLimits wrongCapacity wrongCount wrongEnds firstWrong share pairs firstShared refuseIf endsVerdict sharedVerdict judgeWith shortTable lastJob
+unfolding range anyOf firstOf each wrongSide wrongGrid wrongByte wrongBytes isOpen wrongLimits wrongCapacity wrongCount wrongEnds firstWrong share pairs firstShared refuseIf endsVerdict sharedVerdict judgeWith firstShort lastJob
 runs-last = runs-by lastJob refl refl
 
 -- ---- what our planner tells there
@@ -252,3 +254,59 @@ module _ (r m : Job → List ℕ → Fault) (keeps : CheckIsExact (byCheck r) (b
   never-passes never =
       let (accepted, lawful, safe) = zero-is-safe oneCell standing standing-passes in
       never oneCell standing (keeps oneCell standing (r oneCell standing) (m oneCell standing) refl refl (checks-accept-exactly oneCell .0 accepted) lawful .1 safe)
+
+-- ---- P1's wrong refusals, at every job
+
+module _ (f : Function) (keeps : RefusesFirst (by f)) (job : Job) (n : ℕ) (before : Tables) where
+  due : (RightJob job → ⊥) → Due job (RightCapacity n) (f job n before .told)
+  unfolding RefusesFirst
+  due wrong = keeps job n before (f job n before .told) (f job n before .after) (refl, refl) (λ r. wrong (r .0)) .0
+
+  module _ (i j : ℕ) (apart : i < j) (inside : j < job .count) where
+    -- 16 before 6: where two carriers share a start 16 is not told
+    pub goal-before-start : job .startOf i ≡ job .startOf j → f job n before .told .number ≡ 16 → ⊥
+    goal-before-start shared e = due-sixteen job (RightCapacity n) (f job n before .told) (due (λ r. r .starts i j apart inside shared)) e .0 i j apart inside shared
+
+    -- where two share a goal, and no two a start, 6 is not told
+    pub start-for-a-goal : job .goalOf i ≡ job .goalOf j → NoneShare (job .startOf) (job .count) → f job n before .told .number ≡ 6 → ⊥
+    start-for-a-goal shared starts e =
+        let first = due-six job (RightCapacity n) (f job n before .told) (due (λ r. r .goals i j apart inside shared)) e in
+        starts (f job n before .told .carrier) (f job n before .told .other) (first .apart) (first .inside) (first .shared)
+
+    -- nor with a later pair, as that of the greatest j
+    pub later-pair-told : job .goalOf i ≡ job .goalOf j → f job n before .told .number ≡ 16 → f job n before .told .carrier ≡ i → j < f job n before .told .other → ⊥
+    later-pair-told shared e same later =
+        let first = due-sixteen job (RightCapacity n) (f job n before .told) (due (λ r. r .goals i j apart inside shared)) e .1 in
+        omega (arith, later, first .least i j apart inside shared .1 same)
+
+-- 16 where one carrier's goal is another's start, as in document 01's 0→1 and 1→2: that is no fault, and such a job is searched
+pub goal-on-a-start : (f : Function) → TablesLeft (by f) → (job : Job) (n : ℕ) (before : Tables) → Runs job n before → f job n before .told .number ≡ 16 → ⊥
+unfolding TablesLeft
+goal-on-a-start f keeps job n before runs e = go (keeps job n before (f job n before .told) (f job n before .after) (refl, refl) runs .number)
+  where
+    go : (f job n before .told .number ≡ 0) ⊎ ((f job n before .told .number ≡ 8) ⊎ (f job n before .told .number ≡ 9)) → ⊥
+    go (inl z) = omega arith
+    go (inr (inl z)) = omega arith
+    go (inr (inr z)) = omega arith
+
+-- any table but the first that is short, as the last; any length but its own, as another table's, without the + 1 of H, or in bytes
+module _ (f : Function) (keeps : ShortIsSeven (by f)) (job : Job) (n : ℕ) (before : Tables) (right : RightJob job) (capacity : RightCapacity n) (t : ℕ) (first : FirstShort job n before t) where
+  short-told : f job n before .told ≡ tooShort t (neededLength job n t)
+  unfolding ShortIsSeven
+  short-told =
+      let (u, found, e, x) = keeps job n before (f job n before .told) (f job n before .after) (refl, refl) right capacity (short-not-long job n before t first) in
+      e ∙ ap (λ (k : ℕ). tooShort k (neededLength job n k)) (short-one job n before u t found first)
+
+  pub other-table-told : (f job n before .told .table ≡ t → ⊥) → ⊥
+  other-table-told other = other (ap (λ (x : Told). x .table) short-told)
+
+  pub other-length-told : (f job n before .told .needed ≡ neededLength job n t → ⊥) → ⊥
+  other-length-told other = other (ap (λ (x : Told). x .needed) short-told)
+
+-- the same of a plan that is too short, in either check
+module _ (r m : Job → List ℕ → Fault) (keeps : ShortPlanIsSeven (byCheck r) (byCheck m)) (job : Job) (plan : List ℕ) (right : RightJob job) (short : length plan < planLength job) where
+  pub other-plan-length-told : ((r job plan .needed ≡ planLength job) × (m job plan .needed ≡ planLength job) → ⊥) → ⊥
+  unfolding ShortPlanIsSeven
+  other-plan-length-told other =
+      let (x, y) = keeps job plan (r job plan) (m job plan) refl refl right short in
+      other (ap (λ (g : Fault). g .needed) x, ap (λ (g : Fault). g .needed) y)

@@ -18,9 +18,9 @@ use Rattle.job.specs.Job.{Job, slipOf, mostSlip, planLength, planCell}
 use Rattle.job.specs.Told.{bare, refusal}
 use Rattle.job.specs.Verdict.{judge, ifAccepted, IsAccepted}
 use Rattle.job.specs.declared.Fault.{Fault}
-use Rattle.job.specs.declared.Verdict.{Verdict}
-use Rattle.job.specs.declared.Verdict.the-variants.{Accepted, WrongGrid, WrongBytes, WrongLimits, WrongCount, WrongEnds, SharedEnds}
+use Rattle.job.specs.declared.Verdict.the-variants.{Accepted}
 use Rattle.job.proofs.Due.{checks-accept-exactly as exactly, check-due}
+use Rattle.job.proofs.Refused.{if-refused}
 use Rattle.routes.specs.Check.{Place, places, firstWrongPlace, placeVerdict, planVerdict, routeVerdict, routeTold}
 use Rattle.routes.specs.declared.RouteVerdict.the-variants.{Refused as RouteRefused, Short as RouteShort, Wrong}
 use Rattle.clashes.specs.Check.{planClash, compared, meetingVerdict, meetingTold}
@@ -33,16 +33,6 @@ use Rattle.checks.proofs.Near.{plan-check-exact-near}
 use Rattle.checks.proofs.Read.{route-reads-the-plan, meeting-reads-the-plan}
 use Rattle.promises.specs.Promises.{CheckIsExact, CheckIsExactNear, PassIsSafe, ChecksRefuseFirst, ShortPlanIsSeven, PlanIsRead, FirstWrongTold, ChosenTold}
 use Rattle.promises.specs.Ours.{OurRoutes, OurMeetings}
-
-pub refused : {A : Type 0} (v : Verdict) (go stop : A) → (v ≡ Accepted → ⊥) → ifAccepted v go stop ≡ stop
-unfolding ifAccepted
-refused Accepted go stop n = absurd (n refl)
-refused WrongGrid go stop n = refl
-refused WrongBytes go stop n = refl
-refused WrongLimits go stop n = refl
-refused WrongCount go stop n = refl
-refused (WrongEnds i) go stop n = refl
-refused (SharedEnds i j) go stop n = refl
 
 -- ---- demand 3
 
@@ -83,16 +73,16 @@ unfolding ChecksRefuseFirst routeVerdict meetingVerdict
 checks-refuse-first job plan r m routes meetings not-right =
     let wrong : judge job ≡ Accepted → ⊥ = λ e. not-right (exactly job .0 e) in (
       check-due job,
-      routes ∙ ap routeTold (refused (judge job) (planVerdict job plan) (RouteRefused (judge job)) wrong),
-      meetings ∙ ap meetingTold (refused (judge job) (compared job plan) (MeetingRefused (judge job)) wrong),
+      routes ∙ ap routeTold (if-refused (judge job) (planVerdict job plan) (RouteRefused (judge job)) wrong),
+      meetings ∙ ap meetingTold (if-refused (judge job) (compared job plan) (MeetingRefused (judge job)) wrong),
     )
 
 module _ (job : Job) (plan : List ℕ) (accepted : IsAccepted job) (short : length plan < planLength job) where
-  route-short : routeVerdict job plan ≡ RouteShort
+  route-short : routeVerdict job plan ≡ RouteShort (planLength job)
   unfolding routeVerdict planVerdict ifAccepted
   route-short = rw (accepted, planVerdict, lt-ltb (length plan) (planLength job) short)
 
-  meeting-short : meetingVerdict job plan ≡ MeetingShort
+  meeting-short : meetingVerdict job plan ≡ MeetingShort (planLength job)
   unfolding meetingVerdict compared ifAccepted
   meeting-short = rw (accepted, compared, lt-ltb (length plan) (planLength job) short)
 

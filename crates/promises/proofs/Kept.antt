@@ -4,33 +4,33 @@ use Prim.Native.Nat.{ℕ, _≤_, _<_}
 use native.Mathlib.Omega.{arith}
 use native.Mathlib.Decide.{decLe}
 use mathlib.Core.Path.{_≡_, refl, sym, ap, subst, _∙_}
-use mathlib.Core.Bool.{Bool, true, false}
 use mathlib.Core.Logic.{_⊎_, inl, inr}
 use mathlib.Core.Option.{Option, none, some, Option·some-ne-none}
 use Rattle.job.specs.Job.{Job, wrongCapacity}
 use Rattle.job.specs.Due.{RightJob, RightCapacity, Due}
-use Rattle.job.specs.Verdict.{judgeWith, ifAccepted}
+use Rattle.job.specs.Verdict.{verdictTold, judgeWith, ifAccepted}
 use Rattle.job.specs.declared.Told.{Told}
 use Rattle.job.specs.declared.Verdict.the-variants.{Accepted}
 use Rattle.job.proofs.Due.{accepted-exactly as exactly, checks-accept-exactly as checks-exactly, planner-due}
+use Rattle.job.proofs.Refused.{refusing-alone, if-refused}
 use Rattle.checks.specs.Demand.{Passes}
 use Rattle.search.specs.Search.{Outcome, done, full}
 use Rattle.tree.specs.Plan.{Routes}
 use Rattle.tree.specs.Tree.{Node, tree}
 use Rattle.tree.specs.Promises.{NoneExists}
 use Rattle.tree.proofs.Promises.{tree-need}
-use Rattle.tables.specs.Tables.{Tables, shortTable, LongTables, workedOn, planWritten, withPlan}
-use Rattle.tables.proofs.LongTables.{long-exact}
-use Rattle.planner.specs.Answer.{answerTold, Result, searched, enough, planned}
+use Rattle.tables.specs.Tables.{Tables, neededLength, firstShort, FirstShort, LongTables, workedOn, planWritten, withPlan}
+use Rattle.tables.proofs.LongTables.{LengthsFact, lengths-fact, long-exact}
+use Rattle.planner.specs.Answer.{answerTold, Result, searched, ifLong, enough, planned}
 use Rattle.planner.specs.Promises.{Promised}
 use Rattle.planner.specs.declared.Answer.{Answer}
 use Rattle.planner.specs.declared.Answer.the-variants.{Plan, Refused, Short, NoPlan, Full}
-use Rattle.planner.proofs.Known.{Known, known}
+use Rattle.planner.proofs.Known.{Known, known, numbered}
 use Rattle.lines.specs.Program.{programTables, programText}
 use Rattle.lines.proofs.Whole.{plan-printed as printed}
 use Rattle.promises.specs.Promises.{Runs, AcceptedExactly, ChecksAcceptExactly, AlwaysNumbered, RefusesFirst, ShortIsSeven, Left, TablesLeft, NothingElse, PlanGiven, ZeroIsLeast, EightIsNone, ByNeed, NineByNeed, MoreAltersNothing, SafeGiven, LeastOfTheSafe, OutputPasses, PlanPrinted}
 use Rattle.promises.specs.Ours.{OurPlanner, OurRoutes, OurMeetings}
-use Rattle.promises.proofs.Checks.{refused, both-pass}
+use Rattle.promises.proofs.Checks.{both-pass}
 use Rattle.promises.proofs.Passing.{written-passes}
 
 -- ---- what the definitions give
@@ -43,23 +43,25 @@ record Seen (result : Result) (told : Told) (after : Tables) : Type 0 where
 module _ (job : Job) (n : ℕ) (before : Tables) where
   planned-refused : (judgeWith (wrongCapacity n) job ≡ Accepted → ⊥) → planned job n before ≡ record { answer = Refused (judgeWith (wrongCapacity n) job); tables = before }
   unfolding planned
-  planned-refused k = refused (judgeWith (wrongCapacity n) job) (enough job n before) (record { answer = Refused (judgeWith (wrongCapacity n) job); tables = before }) k
+  planned-refused k = if-refused (judgeWith (wrongCapacity n) job) (enough job n before) (record { answer = Refused (judgeWith (wrongCapacity n) job); tables = before }) k
 
   planned-accepted : RightJob job → RightCapacity n → planned job n before ≡ enough job n before
   unfolding planned ifAccepted
   planned-accepted right capacity = ap (λ v. ifAccepted v (enough job n before) (record { answer = Refused v; tables = before })) (exactly job n .1 (right, capacity))
 
-  enough-short : (LongTables job n before → ⊥) → enough job n before ≡ record { answer = Short; tables = before }
-  unfolding enough
-  enough-short short = go (shortTable job n before) refl
+  -- a table that is too short is told with the length it needed
+  enough-short : (LongTables job n before → ⊥) → (t : ℕ) × FirstShort job n before t × (enough job n before ≡ record { answer = Short t (neededLength job n t); tables = before })
+  unfolding enough ifLong LengthsFact
+  enough-short short = go (firstShort job n before) (lengths-fact job n before)
     where
-      go : (b : Bool) → shortTable job n before ≡ b → _≡_ {A = Result} (elim b [ true ↦ record { answer = Short; tables = before } | false ↦ searched job n before (tree job n) ]) (record { answer = Short; tables = before })
-      go true e = refl
-      go false e = absurd (short (long-exact job n before .0 e))
+      go : (o : Option ℕ) → LengthsFact job n before o
+          → (t : ℕ) × FirstShort job n before t × (ifLong job n before o (searched job n before (tree job n)) ≡ record { answer = Short t (neededLength job n t); tables = before })
+      go none long = absurd (short long)
+      go (some t) f = (t, f, refl)
 
   enough-long : LongTables job n before → enough job n before ≡ searched job n before (tree job n)
-  unfolding enough
-  enough-long l = rw (enough, long-exact job n before .1 l)
+  unfolding enough ifLong
+  enough-long l = let e : firstShort job n before ≡ none = long-exact job n before .1 l in rw e refl
 
   module _ (told : Told) (after : Tables) (p : OurPlanner job n before told after) where
     ours : Seen (planned job n before) told after
@@ -89,20 +91,9 @@ checks-accept-exactly = checks-exactly
 
 -- ---- 1
 
-numbered : (job : Job) (n : ℕ) (before : Tables) (r : Answer) → Known job n before r → answerTold r .number ≤ 9
-unfolding Known
-numbered job n before (Plan s k) f = omega arith
-numbered job n before (Refused v) f = omega (arith, f .2)
-numbered job n before Short f = omega arith
-numbered job n before (NoPlan k) f = omega arith
-numbered job n before (Full k) f = omega arith
-
 pub always-numbered : AlwaysNumbered OurPlanner
 unfolding AlwaysNumbered
-always-numbered job n before told after p =
-    let k : answerTold (p .answer) .number ≤ 9 = numbered job n before (p .answer) (known-of job n before told after p) in
-    let e : told .number ≡ answerTold (p .answer) .number = ap (λ (t : Told). t .number) (p .is) in
-    omega (arith, k, e)
+always-numbered job n before told after p = rw (p .is) (numbered job n before (p .answer) (known-of job n before told after p))
 
 pub refuses-first : RefusesFirst OurPlanner
 unfolding RefusesFirst
@@ -113,14 +104,15 @@ refuses-first job n before told after p wrong =
 pub short-is-seven : ShortIsSeven OurPlanner
 unfolding ShortIsSeven
 short-is-seven job n before told after p right capacity short =
-    let s = seen job n before told after p (record { answer = Short; tables = before }) (planned-accepted job n before right capacity ∙ enough-short job n before short) in
-    (s .tells, s .leaves)
+    let (t, first, e) = enough-short job n before short in
+    let s = seen job n before told after p (record { answer = Short t (neededLength job n t); tables = before }) (planned-accepted job n before right capacity ∙ e) in
+    (t, first, s .tells, s .leaves)
 
 left-by : (job : Job) (n : ℕ) (before : Tables) (o : Outcome Node) → Left job n before (answerTold (searched job n before o .answer)) (searched job n before o .tables)
 unfolding searched withPlan workedOn
-left-by job n before (done (some x) k) = record { number = inl refl; untold = (refl, refl, inl refl); columns = refl; plans = refl; layers = refl; output = inl refl }
-left-by job n before (done none k) = record { number = inr (inl refl); untold = (refl, refl, inr refl); columns = refl; plans = refl; layers = refl; output = inr refl }
-left-by job n before (full k) = record { number = inr (inr refl); untold = (refl, refl, inr refl); columns = refl; plans = refl; layers = refl; output = inr refl }
+left-by job n before (done (some x) k) = record { number = inl refl; untold = (refl, refl, refl, refl, inl refl); columns = refl; plans = refl; layers = refl; output = inl refl }
+left-by job n before (done none k) = record { number = inr (inl refl); untold = (refl, refl, refl, refl, inr refl); columns = refl; plans = refl; layers = refl; output = inr refl }
+left-by job n before (full k) = record { number = inr (inr refl); untold = (refl, refl, refl, refl, inr refl); columns = refl; plans = refl; layers = refl; output = inr refl }
 
 pub tables-left : TablesLeft OurPlanner
 unfolding TablesLeft
@@ -149,8 +141,8 @@ module _ (job : Job) (n : ℕ) (before : Tables) (told : Told) (after : Tables) 
     record { written = written; plan = least .plan; sum = least .told; least = least .least },
     record { written = written; safe = least .safe; sum = least .told; least = least .least-safe },
   )
-  planned-zero (Refused v) f q e = absurd (omega (arith, f .1))
-  planned-zero Short f q e = absurd (omega arith)
+  planned-zero (Refused v) f q e = absurd (refusing-alone (verdictTold v .number) 0 (f .1) (inl refl) e)
+  planned-zero (Short t l) f q e = absurd (omega arith)
   planned-zero (NoPlan k) f q e = absurd (omega arith)
   planned-zero (Full k) f q e = absurd (omega arith)
 
@@ -161,8 +153,8 @@ module _ (job : Job) (n : ℕ) (before : Tables) (told : Told) (after : Tables) 
   zero-right : (r : Answer) → Known job n before r → answerTold r .number ≡ 0 → RightJob job
   unfolding Known
   zero-right (Plan s k) f e = exactly job n .0 f .0
-  zero-right (Refused v) f e = absurd (omega (arith, f .1))
-  zero-right Short f e = absurd (omega arith)
+  zero-right (Refused v) f e = absurd (refusing-alone (verdictTold v .number) 0 (f .1) (inl refl) e)
+  zero-right (Short t l) f e = absurd (omega arith)
   zero-right (NoPlan k) f e = absurd (omega arith)
   zero-right (Full k) f e = absurd (omega arith)
 
@@ -172,8 +164,8 @@ module _ (job : Job) (n : ℕ) (before : Tables) (told : Told) (after : Tables) 
   none-given : (r : Answer) → Known job n before r → Promised job n before r after → answerTold r .number ≡ 8 → NoneExists job
   unfolding Known Promised
   none-given (Plan s k) f q e = absurd (omega arith)
-  none-given (Refused v) f q e = absurd (omega (arith, f .2))
-  none-given Short f q e = absurd (omega arith)
+  none-given (Refused v) f q e = absurd (refusing-alone (verdictTold v .number) 8 (f .1) (inr (omega arith, omega arith)) e)
+  none-given (Short t l) f q e = absurd (omega arith)
   none-given (NoPlan k) f q e = q .0
   none-given (Full k) f q e = absurd (omega arith)
 

@@ -5,7 +5,6 @@ use Prim.Native.Nat.{ℕ, _≤_, _<_}
 use native.Mathlib.Omega.{arith}
 use native.Mathlib.Decide.{decLe}
 use mathlib.Core.Path.{_≡_, refl, sym, ap, _∙_}
-use mathlib.Core.Bool.{Bool, true, false}
 use mathlib.Core.List.{List}
 use mathlib.Core.Logic.{_⊎_, inl, inr}
 use mathlib.Core.Option.{Option, none, some}
@@ -13,13 +12,13 @@ use lib.ListN.{length}
 use Rattle.lists.proofs.Tests.{not-both}
 use Rattle.job.specs.Job.{Job, slipOf, planLength, planCell, wrongCapacity}
 use Rattle.job.specs.Due.{RightJob, RightCapacity}
-use Rattle.job.specs.Told.{bare, refusal}
-use Rattle.job.specs.Verdict.{judgeWith, judge, verdictTold}
+use Rattle.job.specs.Told.{bare, tooShort, refusal}
+use Rattle.job.specs.Verdict.{judgeWith, judge}
 use Rattle.job.specs.declared.Fault.{Fault}
 use Rattle.job.specs.declared.Told.{Told}
-use Rattle.job.specs.declared.Verdict.{Verdict}
-use Rattle.job.specs.declared.Verdict.the-variants.{Accepted, WrongGrid, WrongBytes, WrongLimits, WrongCount, WrongEnds, SharedEnds}
+use Rattle.job.specs.declared.Verdict.the-variants.{Accepted}
 use Rattle.job.proofs.Due.{accepted-exactly, checks-accept-exactly}
+use Rattle.job.proofs.Refused.{accepts-or-not}
 use Rattle.routes.specs.Check.{routeTold}
 use Rattle.routes.specs.declared.RouteVerdict.the-variants.{Wrong}
 use Rattle.clashes.specs.Check.{clashTold}
@@ -28,8 +27,8 @@ use Rattle.checks.specs.Demand.{LawfulRoutes}
 use Rattle.checks.specs.First.{NoneWrong, FirstWrongPlace}
 use Rattle.tree.specs.Tree.{Node}
 use Rattle.tree.proofs.Promises.{need-one}
-use Rattle.tables.specs.Tables.{Tables, shortTable, LongTables}
-use Rattle.tables.proofs.LongTables.{long-exact}
+use Rattle.tables.specs.Tables.{Tables, neededLength, firstShort}
+use Rattle.tables.proofs.LongTables.{LengthsFact, lengths-fact, short-not-long, short-one}
 use Rattle.promises.specs.Promises.{Planner, Check, Runs, RefusesFirst, ShortIsSeven, Left, TablesLeft, ZeroIsLeast, ByNeed, NineByNeed, ChecksRefuseFirst, ShortPlanIsSeven, FirstWrongTold, ChosenTold}
 use Rattle.promises.specs.Ours.{OurPlanner, OurRoutes, OurMeetings, LinesSettle, CheckLinesSettle}
 use Rattle.promises.proofs.Checks.{checks-refuse-first, short-plan-is-seven, first-wrong-told, chosen-told}
@@ -37,11 +36,11 @@ use Rattle.promises.proofs.Kept.{refuses-first, short-is-seven, tables-
 
 -- ---- equal by their entries
 
-told-same : (a b : Told) → a .number ≡ b .number → a .sum ≡ b .sum → a .records ≡ b .records → a .carrier ≡ b .carrier → a .other ≡ b .other → a ≡ b
-told-same a b number sum records carrier other =
+told-same : (a b : Told) → a .number ≡ b .number → a .sum ≡ b .sum → a .records ≡ b .records → a .carrier ≡ b .carrier → a .other ≡ b .other → a .table ≡ b .table → a .needed ≡ b .needed → a ≡ b
+told-same a b number sum records carrier other table needed =
     let e : _≡_ {A = Told}
-    (record { number = a .number; sum = a .sum; records = a .records; carrier = a .carrier; other = a .other })
-    (record { number = b .number; sum = b .sum; records = b .records; carrier = b .carrier; other = b .other }) = cc in
+    (record { number = a .number; sum = a .sum; records = a .records; carrier = a .carrier; other = a .other; table = a .table; needed = a .needed })
+    (record { number = b .number; sum = b .sum; records = b .records; carrier = b .carrier; other = b .other; table = b .table; needed = b .needed }) = cc in
     e
 
 tables-same : (a b : Tables) → a .columns ≡ b .columns → a .plans ≡ b .plans → a .layers ≡ b .layers → a .output ≡ b .output → a ≡ b
@@ -108,7 +107,7 @@ module _ (gives : Planner) (first : RefusesFirst gives) (short : ShortIsSeven gi
       omega (arith, one, other)
 
   same-sum : (l : Left job n before told after) (l′ : Left job n before told′ after′) → told .number ≡ told′ .number → told .sum ≡ told′ .sum
-  same-sum l l′ e = go (l .untold .2) (l′ .untold .2)
+  same-sum l l′ e = go (l .untold .4) (l′ .untold .4)
     where
       go : (told .number ≡ 0) ⊎ (told .sum ≡ 0) → (told′ .number ≡ 0) ⊎ (told′ .sum ≡ 0) → told .sum ≡ told′ .sum
       go (inl z) x = zero-sum z (sym e ∙ z)
@@ -126,21 +125,21 @@ module _ (gives : Planner) (first : RefusesFirst gives) (short : ShortIsSeven gi
       let b = by n before told after p runs in
       let b′ : ByNeed job n before k end told′ after′ = rw (same, same-end) at (by′ n before told′ after′ p′ runs) in
       let (number, records) = needs-same job n before k end told told′ after after′ b b′ in (
-        told-same told told′ number (same-sum l l′ number) records (l .untold .0 ∙ sym (l′ .untold .0)) (l .untold .1 ∙ sym (l′ .untold .1)),
+        told-same told told′ number (same-sum l l′ number) records (l .untold .0 ∙ sym (l′ .untold .0)) (l .untold .1 ∙ sym (l′ .untold .1)) (l .untold .2 ∙ sym (l′ .untold .2)) (l .untold .3 ∙ sym (l′ .untold .3)),
         tables-same after after′ (l .columns ∙ sym (l′ .columns)) (l .plans ∙ sym (l′ .plans)) (l .layers ∙ sym (l′ .layers)) (output-same job n before k end told told′ after after′ b b′ l l′),
       )
 
   long-same : RightJob job → RightCapacity n → (told ≡ told′) × (after ≡ after′)
-  unfolding ShortIsSeven
-  long-same right capacity = go (shortTable job n before) refl
+  unfolding ShortIsSeven LengthsFact
+  long-same right capacity = go (firstShort job n before) (lengths-fact job n before)
     where
-      go : (b : Bool) → shortTable job n before ≡ b → (told ≡ told′) × (after ≡ after′)
-      go false e = runs-same (record { right = right; capacity = capacity; long = long-exact job n before .0 e })
-      go true e =
-          let no-room : LongTables job n before → ⊥ = λ room. not-both e (long-exact job n before .1 room) in
-          let (t, x) = short job n before told after p right capacity no-room in
-          let (t′, x′) = short-is-seven job n before told′ after′ p′ right capacity no-room in
-          (t ∙ sym t′, x ∙ sym x′)
+      go : (o : Option ℕ) → LengthsFact job n before o → (told ≡ told′) × (after ≡ after′)
+      go none long = runs-same (record { right = right; capacity = capacity; long = long })
+      go (some u) f =
+          let (t, first, e, x) = short job n before told after p right capacity (short-not-long job n before u f) in
+          let (t′, first′, e′, x′) = short-is-seven job n before told′ after′ p′ right capacity (short-not-long job n before u f) in
+          let same : t ≡ t′ = short-one job n before t t′ first first′ in
+          (e ∙ ap (λ (k : ℕ). tooShort k (neededLength job n k)) same ∙ sym e′, x ∙ sym x′)
 
   refused-same : (judgeWith (wrongCapacity n) job ≡ Accepted → ⊥) → (told ≡ told′) × (after ≡ after′)
   unfolding RefusesFirst
@@ -153,20 +152,6 @@ module _ (gives : Planner) (first : RefusesFirst gives) (short : ShortIsSeven gi
   all-same : (judgeWith (wrongCapacity n) job ≡ Accepted) ⊎ (judgeWith (wrongCapacity n) job ≡ Accepted → ⊥) → (told ≡ told′) × (after ≡ after′)
   all-same (inl e) = let (right, capacity) = accepted-exactly job n .0 e in long-same right capacity
   all-same (inr r) = refused-same r
-
--- ---- a verdict accepts or refuses
-
-numbers-differ : (v w : Verdict) → (verdictTold v .number ≡ verdictTold w .number → ⊥) → v ≡ w → ⊥
-numbers-differ v w n e = n (ap (λ (x : Verdict). verdictTold x .number) e)
-
-accepts-or-not : (v : Verdict) → (v ≡ Accepted) ⊎ (v ≡ Accepted → ⊥)
-accepts-or-not Accepted = inl refl
-accepts-or-not WrongGrid = inr (numbers-differ WrongGrid Accepted (λ e. omega arith))
-accepts-or-not WrongBytes = inr (numbers-differ WrongBytes Accepted (λ e. omega arith))
-accepts-or-not WrongLimits = inr (numbers-differ WrongLimits Accepted (λ e. omega arith))
-accepts-or-not WrongCount = inr (numbers-differ WrongCount Accepted (λ e. omega arith))
-accepts-or-not (WrongEnds i) = inr (numbers-differ (WrongEnds i) Accepted (λ e. omega arith))
-accepts-or-not (SharedEnds i j) = inr (numbers-differ (SharedEnds i j) Accepted (λ e. omega arith))
 
 pub lines-settle : LinesSettle
 unfolding LinesSettle

@@ -1,9 +1,10 @@
--- Document 01, 'Numbers given back', as one table: each case of each answer, and beside it the literal number and the literal values told,
--- in the order in which a caller in C gets them. 'Untold numbers are 0.' The law `numbers-hold` is the claim.
+-- Document 01, 'Numbers given back', with P1's 16 and what P1 tells with 7, as one table: each case of each answer, and beside it the
+-- literal number and the literal values told, in the order in which a caller in C gets them. 'Untold numbers are 0.' The law
+-- `numbers-hold` is the claim.
 use Prim.Native.Nat.{ℕ}
 use mathlib.Core.List.{List, [], _∷_, map}
 use mathlib.Core.Path.{_≡_}
-use Rattle.job.specs.declared.Verdict.the-variants.{WrongGrid, WrongBytes, WrongLimits, WrongCount, WrongEnds, SharedEnds}
+use Rattle.job.specs.declared.Verdict.the-variants.{WrongGrid, WrongBytes, WrongLimits, WrongCount, WrongEnds, SharedStart, SharedGoal}
 use Rattle.routes.specs.Check.{routeTold}
 use Rattle.routes.specs.declared.RouteVerdict.the-variants.{Lawful, Refused as RouteRefused, Short as RouteShort, Wrong}
 use Rattle.clashes.specs.Check.{meetingTold}
@@ -23,51 +24,54 @@ pub record Row : Type 0 where
 row : List ℕ → List ℕ → Row
 row told paper = record { told = told; paper = paper }
 
--- the planner: number, sum, records, carrier, other
-unfoldable pub planRows : ℕ → ℕ → ℕ → ℕ → List Row
+-- the planner: number, sum, records, carrier, other, table, needed
+unfoldable pub planRows : ℕ → ℕ → ℕ → ℕ → ℕ → ℕ → List Row
 unfolding row
-planRows sum records i j =
-    row (toldValues (answerTold (Plan sum records))) (0 ∷ sum ∷ records ∷ 0 ∷ 0 ∷ [])
-    ∷ row (toldValues (answerTold (Refused WrongGrid))) (1 ∷ 0 ∷ 0 ∷ 0 ∷ 0 ∷ [])
-    ∷ row (toldValues (answerTold (Refused WrongBytes))) (2 ∷ 0 ∷ 0 ∷ 0 ∷ 0 ∷ [])
-    ∷ row (toldValues (answerTold (Refused WrongLimits))) (3 ∷ 0 ∷ 0 ∷ 0 ∷ 0 ∷ [])
-    ∷ row (toldValues (answerTold (Refused WrongCount))) (4 ∷ 0 ∷ 0 ∷ 0 ∷ 0 ∷ [])
-    ∷ row (toldValues (answerTold (Refused (WrongEnds i)))) (5 ∷ 0 ∷ 0 ∷ i ∷ 0 ∷ [])
-    ∷ row (toldValues (answerTold (Refused (SharedEnds i j)))) (6 ∷ 0 ∷ 0 ∷ i ∷ j ∷ [])
-    ∷ row (toldValues (answerTold Short)) (7 ∷ 0 ∷ 0 ∷ 0 ∷ 0 ∷ [])
-    ∷ row (toldValues (answerTold (NoPlan records))) (8 ∷ 0 ∷ records ∷ 0 ∷ 0 ∷ [])
-    ∷ row (toldValues (answerTold (Full records))) (9 ∷ 0 ∷ records ∷ 0 ∷ 0 ∷ [])
+planRows sum records i j table needed =
+    row (toldValues (answerTold (Plan sum records))) (0 ∷ sum ∷ records ∷ 0 ∷ 0 ∷ 0 ∷ 0 ∷ [])
+    ∷ row (toldValues (answerTold (Refused WrongGrid))) (1 ∷ 0 ∷ 0 ∷ 0 ∷ 0 ∷ 0 ∷ 0 ∷ [])
+    ∷ row (toldValues (answerTold (Refused WrongBytes))) (2 ∷ 0 ∷ 0 ∷ 0 ∷ 0 ∷ 0 ∷ 0 ∷ [])
+    ∷ row (toldValues (answerTold (Refused WrongLimits))) (3 ∷ 0 ∷ 0 ∷ 0 ∷ 0 ∷ 0 ∷ 0 ∷ [])
+    ∷ row (toldValues (answerTold (Refused WrongCount))) (4 ∷ 0 ∷ 0 ∷ 0 ∷ 0 ∷ 0 ∷ 0 ∷ [])
+    ∷ row (toldValues (answerTold (Refused (WrongEnds i)))) (5 ∷ 0 ∷ 0 ∷ i ∷ 0 ∷ 0 ∷ 0 ∷ [])
+    ∷ row (toldValues (answerTold (Refused (SharedStart i j)))) (6 ∷ 0 ∷ 0 ∷ i ∷ j ∷ 0 ∷ 0 ∷ [])
+    ∷ row (toldValues (answerTold (Refused (SharedGoal i j)))) (16 ∷ 0 ∷ 0 ∷ i ∷ j ∷ 0 ∷ 0 ∷ [])
+    ∷ row (toldValues (answerTold (Short table needed))) (7 ∷ 0 ∷ 0 ∷ 0 ∷ 0 ∷ table ∷ needed ∷ [])
+    ∷ row (toldValues (answerTold (NoPlan records))) (8 ∷ 0 ∷ records ∷ 0 ∷ 0 ∷ 0 ∷ 0 ∷ [])
+    ∷ row (toldValues (answerTold (Full records))) (9 ∷ 0 ∷ records ∷ 0 ∷ 0 ∷ 0 ∷ 0 ∷ [])
     ∷ []
 
--- the route check: number, carrier, other, step, distance, swap
-unfoldable pub routeRows : ℕ → ℕ → ℕ → List Row
+-- the route check: number, carrier, other, step, distance, swap, needed
+unfoldable pub routeRows : ℕ → ℕ → ℕ → ℕ → List Row
 unfolding row
-routeRows i j t =
-    row (faultValues (routeTold Lawful)) (0 ∷ 0 ∷ 0 ∷ 0 ∷ 0 ∷ 0 ∷ [])
-    ∷ row (faultValues (routeTold (RouteRefused WrongGrid))) (1 ∷ 0 ∷ 0 ∷ 0 ∷ 0 ∷ 0 ∷ [])
-    ∷ row (faultValues (routeTold (RouteRefused WrongBytes))) (2 ∷ 0 ∷ 0 ∷ 0 ∷ 0 ∷ 0 ∷ [])
-    ∷ row (faultValues (routeTold (RouteRefused WrongLimits))) (3 ∷ 0 ∷ 0 ∷ 0 ∷ 0 ∷ 0 ∷ [])
-    ∷ row (faultValues (routeTold (RouteRefused WrongCount))) (4 ∷ 0 ∷ 0 ∷ 0 ∷ 0 ∷ 0 ∷ [])
-    ∷ row (faultValues (routeTold (RouteRefused (WrongEnds i)))) (5 ∷ i ∷ 0 ∷ 0 ∷ 0 ∷ 0 ∷ [])
-    ∷ row (faultValues (routeTold (RouteRefused (SharedEnds i j)))) (6 ∷ i ∷ j ∷ 0 ∷ 0 ∷ 0 ∷ [])
-    ∷ row (faultValues (routeTold RouteShort)) (7 ∷ 0 ∷ 0 ∷ 0 ∷ 0 ∷ 0 ∷ [])
-    ∷ row (faultValues (routeTold (Wrong i t))) (21 ∷ i ∷ 0 ∷ t ∷ 0 ∷ 0 ∷ [])
+routeRows i j t needed =
+    row (faultValues (routeTold Lawful)) (0 ∷ 0 ∷ 0 ∷ 0 ∷ 0 ∷ 0 ∷ 0 ∷ [])
+    ∷ row (faultValues (routeTold (RouteRefused WrongGrid))) (1 ∷ 0 ∷ 0 ∷ 0 ∷ 0 ∷ 0 ∷ 0 ∷ [])
+    ∷ row (faultValues (routeTold (RouteRefused WrongBytes))) (2 ∷ 0 ∷ 0 ∷ 0 ∷ 0 ∷ 0 ∷ 0 ∷ [])
+    ∷ row (faultValues (routeTold (RouteRefused WrongLimits))) (3 ∷ 0 ∷ 0 ∷ 0 ∷ 0 ∷ 0 ∷ 0 ∷ [])
+    ∷ row (faultValues (routeTold (RouteRefused WrongCount))) (4 ∷ 0 ∷ 0 ∷ 0 ∷ 0 ∷ 0 ∷ 0 ∷ [])
+    ∷ row (faultValues (routeTold (RouteRefused (WrongEnds i)))) (5 ∷ i ∷ 0 ∷ 0 ∷ 0 ∷ 0 ∷ 0 ∷ [])
+    ∷ row (faultValues (routeTold (RouteRefused (SharedStart i j)))) (6 ∷ i ∷ j ∷ 0 ∷ 0 ∷ 0 ∷ 0 ∷ [])
+    ∷ row (faultValues (routeTold (RouteRefused (SharedGoal i j)))) (16 ∷ i ∷ j ∷ 0 ∷ 0 ∷ 0 ∷ 0 ∷ [])
+    ∷ row (faultValues (routeTold (RouteShort needed))) (7 ∷ 0 ∷ 0 ∷ 0 ∷ 0 ∷ 0 ∷ needed ∷ [])
+    ∷ row (faultValues (routeTold (Wrong i t))) (21 ∷ i ∷ 0 ∷ t ∷ 0 ∷ 0 ∷ 0 ∷ [])
     ∷ []
 
--- the meeting check: the same six
-unfoldable pub meetingRows : ℕ → ℕ → ℕ → ℕ → List Row
+-- the meeting check: the same seven
+unfoldable pub meetingRows : ℕ → ℕ → ℕ → ℕ → ℕ → List Row
 unfolding row
-meetingRows i j t d =
-    row (faultValues (meetingTold (Compared Clear))) (0 ∷ 0 ∷ 0 ∷ 0 ∷ 0 ∷ 0 ∷ [])
-    ∷ row (faultValues (meetingTold (MeetingRefused WrongGrid))) (1 ∷ 0 ∷ 0 ∷ 0 ∷ 0 ∷ 0 ∷ [])
-    ∷ row (faultValues (meetingTold (MeetingRefused WrongBytes))) (2 ∷ 0 ∷ 0 ∷ 0 ∷ 0 ∷ 0 ∷ [])
-    ∷ row (faultValues (meetingTold (MeetingRefused WrongLimits))) (3 ∷ 0 ∷ 0 ∷ 0 ∷ 0 ∷ 0 ∷ [])
-    ∷ row (faultValues (meetingTold (MeetingRefused WrongCount))) (4 ∷ 0 ∷ 0 ∷ 0 ∷ 0 ∷ 0 ∷ [])
-    ∷ row (faultValues (meetingTold (MeetingRefused (WrongEnds i)))) (5 ∷ i ∷ 0 ∷ 0 ∷ 0 ∷ 0 ∷ [])
-    ∷ row (faultValues (meetingTold (MeetingRefused (SharedEnds i j)))) (6 ∷ i ∷ j ∷ 0 ∷ 0 ∷ 0 ∷ [])
-    ∷ row (faultValues (meetingTold MeetingShort)) (7 ∷ 0 ∷ 0 ∷ 0 ∷ 0 ∷ 0 ∷ [])
-    ∷ row (faultValues (meetingTold (Compared (Meeting i j t d)))) (22 ∷ i ∷ j ∷ t ∷ d ∷ 0 ∷ [])
-    ∷ row (faultValues (meetingTold (Compared (Swap i j t)))) (22 ∷ i ∷ j ∷ t ∷ 0 ∷ 1 ∷ [])
+meetingRows i j t d needed =
+    row (faultValues (meetingTold (Compared Clear))) (0 ∷ 0 ∷ 0 ∷ 0 ∷ 0 ∷ 0 ∷ 0 ∷ [])
+    ∷ row (faultValues (meetingTold (MeetingRefused WrongGrid))) (1 ∷ 0 ∷ 0 ∷ 0 ∷ 0 ∷ 0 ∷ 0 ∷ [])
+    ∷ row (faultValues (meetingTold (MeetingRefused WrongBytes))) (2 ∷ 0 ∷ 0 ∷ 0 ∷ 0 ∷ 0 ∷ 0 ∷ [])
+    ∷ row (faultValues (meetingTold (MeetingRefused WrongLimits))) (3 ∷ 0 ∷ 0 ∷ 0 ∷ 0 ∷ 0 ∷ 0 ∷ [])
+    ∷ row (faultValues (meetingTold (MeetingRefused WrongCount))) (4 ∷ 0 ∷ 0 ∷ 0 ∷ 0 ∷ 0 ∷ 0 ∷ [])
+    ∷ row (faultValues (meetingTold (MeetingRefused (WrongEnds i)))) (5 ∷ i ∷ 0 ∷ 0 ∷ 0 ∷ 0 ∷ 0 ∷ [])
+    ∷ row (faultValues (meetingTold (MeetingRefused (SharedStart i j)))) (6 ∷ i ∷ j ∷ 0 ∷ 0 ∷ 0 ∷ 0 ∷ [])
+    ∷ row (faultValues (meetingTold (MeetingRefused (SharedGoal i j)))) (16 ∷ i ∷ j ∷ 0 ∷ 0 ∷ 0 ∷ 0 ∷ [])
+    ∷ row (faultValues (meetingTold (MeetingShort needed))) (7 ∷ 0 ∷ 0 ∷ 0 ∷ 0 ∷ 0 ∷ needed ∷ [])
+    ∷ row (faultValues (meetingTold (Compared (Meeting i j t d)))) (22 ∷ i ∷ j ∷ t ∷ d ∷ 0 ∷ 0 ∷ [])
+    ∷ row (faultValues (meetingTold (Compared (Swap i j t)))) (22 ∷ i ∷ j ∷ t ∷ 0 ∷ 1 ∷ 0 ∷ [])
     ∷ []
 
 -- the reader: the number alone
@@ -87,7 +91,7 @@ unfoldable pub Hold : List Row → Type 0
 Hold rows = map (λ r. r .told) rows ≡ map (λ r. r .paper) rows
 
 pub record NumbersHold : Type 0 where
-  pub planner : (sum records i j : ℕ) → Hold (planRows sum records i j)
-  pub routes : (i j t : ℕ) → Hold (routeRows i j t)
-  pub meetings : (i j t d : ℕ) → Hold (meetingRows i j t d)
+  pub planner : (sum records i j table needed : ℕ) → Hold (planRows sum records i j table needed)
+  pub routes : (i j t needed : ℕ) → Hold (routeRows i j t needed)
+  pub meetings : (i j t d needed : ℕ) → Hold (meetingRows i j t d needed)
   pub reader : Hold bookRows

@@ -21,7 +21,7 @@ use Rattle.lists.specs.Lists.{range, each}
 use Rattle.lent.specs.Lent.{zeroed}
 use Rattle.job.specs.Job.{Job, slipOf, planLength, planCell, wrongCapacity}
 use Rattle.job.specs.Due.{RightJob, RightCapacity, Due}
-use Rattle.job.specs.Told.{bare, refusal}
+use Rattle.job.specs.Told.{bare, tooShort, refusal, planTooShort}
 use Rattle.job.specs.Verdict.{judgeWith, judge, verdictTold}
 use Rattle.job.specs.declared.Verdict.the-variants.{Accepted}
 use Rattle.job.specs.declared.Told.{Told}
@@ -36,7 +36,7 @@ use Rattle.checks.specs.First.{NoneWrong, FirstWrongPlace}
 use Rattle.tree.specs.Plan.{Routes, routeOf, IsPlan, IsSafe, Family, total}
 use Rattle.tree.specs.Tree.{Node}
 use Rattle.tree.specs.Promises.{LeastPlan, NeedIs}
-use Rattle.tables.specs.Tables.{Tables, columnsLength, plansLength, layersLength, LongTables, planWritten}
+use Rattle.tables.specs.Tables.{Tables, columnsLength, plansLength, layersLength, neededLength, FirstShort, LongTables, planWritten}
 use Rattle.planner.specs.Answer.{answerTold, planned}
 use Rattle.book.specs.Book.{bookVerdict}
 use Rattle.book.specs.declared.BookVerdict.the-variants.{Good}
@@ -51,7 +51,7 @@ Planner = Job → ℕ → Tables → Told → Tables → Type 0
 abbrev pub Check : Type 1
 Check = Job → List ℕ → Fault → Type 0
 
--- checks 1 to 6 pass, with N; and no lent table is too short
+-- checks 1 to 6 and 16 pass, with N; and no lent table is too short
 pub record Runs (job : Job) (n : ℕ) (before : Tables) : Type 0 where
   pub right : RightJob job
   pub capacity : RightCapacity n
@@ -68,28 +68,29 @@ ChecksAcceptExactly = (job : Job) → (judge job ≡ Accepted) ↔ RightJob job
 -- ---- 1. 'The planner takes any job and any tables we lend it, checks them itself and always ends with a plan or a numbered refusal.
 -- ---- Document 01 says when each number is given and what every table holds afterwards.'
 
--- [always-numbered] 0 is a plan, 1 to 9 refuse
+-- [always-numbered] 0 is a plan, 1 to 9 and 16 refuse
 unfoldable pub AlwaysNumbered : Planner → Type 0
-AlwaysNumbered gives = (job : Job) (n : ℕ) (before : Tables) (told : Told) (after : Tables) → gives job n before told after → told .number ≤ 9
+AlwaysNumbered gives = (job : Job) (n : ℕ) (before : Tables) (told : Told) (after : Tables) → gives job n before told after → (told .number ≤ 9) ⊎ (told .number ≡ 16)
 
--- [refuses-first] a job that is not right, or N: the number of 1 to 6 that is due, in document 01's words and by the definition that
--- gives it; 'no lent entry has changed'
+-- [refuses-first] a job that is not right, or N: the number of 1 to 6 and 16 that is due, with its carrier or its pair, in the documents'
+-- words (`Due`) and by the definition that gives it; 'no lent entry has changed'
 unfoldable pub RefusesFirst : Planner → Type 0
 RefusesFirst gives =
     (job : Job) (n : ℕ) (before : Tables) (told : Told) (after : Tables) → gives job n before told after → (RightJob job × RightCapacity n → ⊥)
     → Due job (RightCapacity n) told × (told ≡ verdictTold (judgeWith (wrongCapacity n) job)) × (after ≡ before)
 
--- [short-is-seven] then 7, 'a lent table is too short'; 'no lent entry has changed'
+-- [short-is-seven] then 7, 'a lent table is too short', with 'the first short table, in document 01's order, and the length it needed' (P1),
+-- in words (`FirstShort`) and by the definition that gives it; 'no lent entry has changed'
 unfoldable pub ShortIsSeven : Planner → Type 0
 ShortIsSeven gives =
     (job : Job) (n : ℕ) (before : Tables) (told : Told) (after : Tables) → gives job n before told after → RightJob job → RightCapacity n
-    → (LongTables job n before → ⊥) → (told ≡ bare 7) × (after ≡ before)
+    → (LongTables job n before → ⊥) → (t : ℕ) × FirstShort job n before t × (told ≡ tooShort t (neededLength job n t)) × (after ≡ before)
 
 -- [tables-left] otherwise 0, 8 or 9: 'the named least lengths of the first three tables are all zero and the rest unchanged. Output
--- changes only for 0'. 'Untold numbers are 0': the carriers, and the sum but for 0
+-- changes only for 0'. 'Untold numbers are 0': the carriers, the table and its length, and the sum but for 0
 pub record Left (job : Job) (n : ℕ) (before : Tables) (told : Told) (after : Tables) : Type 0 where
   pub number : (told .number ≡ 0) ⊎ ((told .number ≡ 8) ⊎ (told .number ≡ 9))
-  pub untold : (told .carrier ≡ 0) × (told .other ≡ 0) × ((told .number ≡ 0) ⊎ (told .sum ≡ 0))
+  pub untold : (told .carrier ≡ 0) × (told .other ≡ 0) × (told .table ≡ 0) × (told .needed ≡ 0) × ((told .number ≡ 0) ⊎ (told .sum ≡ 0))
   pub columns : after .columns ≡ zeroed (columnsLength n) (before .columns)
   pub plans : after .plans ≡ zeroed (plansLength job n) (before .plans)
   pub layers : after .layers ≡ zeroed (layersLength job) (before .layers)
@@ -189,19 +190,19 @@ OutputPasses gives routes meetings =
     → routes job (after .output) r → meetings job (after .output) m → (r .number ≡ 0) × (m .number ≡ 0)
 
 -- ---- Document 01, of the two checks: 'Both begin with checks 1 to 6 (no N there), then 7 if the plan is shorter than m × (H + 1); bytes
--- ---- after that length are not read.'
+-- ---- after that length are not read.' Document 02: '16 shared goal, directly after 6 wherever 6 is given'.
 
--- [checks-refuse-first] the number of 1 to 6 that is due, in document 01's words and by the definition that gives it
+-- [checks-refuse-first] the number of 1 to 6 and 16 that is due, in the documents' words and by the definition that gives it
 unfoldable pub ChecksRefuseFirst : Check → Check → Type 0
 ChecksRefuseFirst routes meetings =
     (job : Job) (plan : List ℕ) (r m : Fault) → routes job plan r → meetings job plan m → (RightJob job → ⊥)
     → Due job (Unit {0}) (verdictTold (judge job)) × (r ≡ refusal (verdictTold (judge job))) × (m ≡ refusal (verdictTold (judge job)))
 
--- [short-plan-is-seven]
+-- [short-plan-is-seven] with 'the length it needed'
 unfoldable pub ShortPlanIsSeven : Check → Check → Type 0
 ShortPlanIsSeven routes meetings =
     (job : Job) (plan : List ℕ) (r m : Fault) → routes job plan r → meetings job plan m → RightJob job → length plan < planLength job
-    → (r ≡ refusal (bare 7)) × (m ≡ refusal (bare 7))
+    → (r ≡ planTooShort (planLength job)) × (m ≡ planTooShort (planLength job))
 
 -- [plan-is-read] both say of a plan what they say of its first m × (H + 1) bytes
 unfoldable pub PlanIsRead : Check → Check → Type 0

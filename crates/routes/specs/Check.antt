@@ -1,7 +1,7 @@
 -- Document 01, 'Numbers given back': the route check. 'Both begin with checks 1 to 6 (no N there), then 7 if the plan is
 -- shorter than m × (H + 1); bytes after that length are not read. The route check then says 0, or 21 with the first
 -- carrier, and its first step, at which the start, a move, a cell or the goal is wrong (a wrong move counts at the step it
--- arrives; step H if only the goal is wrong).'
+-- arrives; step H if only the goal is wrong).' P1: 16 'directly after 6 wherever 6 is given', and 7 with 'the length it needed'.
 use Prim.Native.Nat.{ℕ, _+_, _-_}
 use mathlib.Core.Bool.{Bool, true, false, not, _&&_, _||_}
 use mathlib.Core.List.{List, map}
@@ -12,7 +12,7 @@ use Rattle.lists.specs.Lists.{range, each, anyOf, firstOf}
 use Rattle.hall.specs.Hall.{Hall}
 use Rattle.hall.specs.Moves.{mayFollow}
 use Rattle.job.specs.Job.{Job, planLength, planCell}
-use Rattle.job.specs.Told.{bare, refusal}
+use Rattle.job.specs.Told.{bare, fault, refusal, planTooShort}
 use Rattle.job.specs.declared.Fault.{Fault}
 use Rattle.job.specs.Verdict.{judge, verdictTold, ifAccepted}
 use Rattle.routes.specs.declared.RouteVerdict.{RouteVerdict}
@@ -43,7 +43,7 @@ placeVerdict none = Lawful
 placeVerdict (some p) = Wrong (p .carrier) (p .step)
 
 unfoldable pub planVerdict : Job → List ℕ → RouteVerdict
-planVerdict job plan = elim (ltb (length plan) (planLength job)) [ true ↦ Short | false ↦ placeVerdict (firstWrongPlace job (planCell job plan)) ]
+planVerdict job plan = elim (ltb (length plan) (planLength job)) [ true ↦ Short (planLength job) | false ↦ placeVerdict (firstWrongPlace job (planCell job plan)) ]
 
 unfoldable pub routeVerdict : Job → List ℕ → RouteVerdict
 routeVerdict job plan = ifAccepted (judge job) (planVerdict job plan) (Refused (judge job))
@@ -52,5 +52,5 @@ routeVerdict job plan = ifAccepted (judge job) (planVerdict job plan) (Refused (
 abbrev pub routeTold : RouteVerdict → Fault
 routeTold Lawful = refusal (bare 0)
 routeTold (Refused v) = refusal (verdictTold v)
-routeTold Short = refusal (bare 7)
-routeTold (Wrong i t) = record { number = 21; carrier = i; other = 0; step = t; distance = 0; swap = 0 }
+routeTold (Short l) = planTooShort l
+routeTold (Wrong i t) = fault 21 i 0 t 0 0

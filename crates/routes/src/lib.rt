@@ -20,6 +20,6 @@ pub enum Bar {
 pub enum RouteVerdict {
     Lawful,
     Refused(Verdict),
-    Short,
+    Short { needed: usize },
     Wrong { carrier: usize, step: usize },
 }

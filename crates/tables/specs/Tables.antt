@@ -1,12 +1,12 @@
 -- Document 01, 'Lent tables, for m carriers: record columns, 16-bit, at least 8 × N; plans, bytes, at least
 -- N × m × (H + 1); layers, bytes, at least (H + 1) × width × height; output, at least m × (H + 1) bytes.'
-use Prim.Native.Nat.{ℕ, _+_, _*_, _≤_}
-use mathlib.Core.Bool.{Bool, _||_}
-use mathlib.Core.List.{List, _++_}
+use Prim.Native.Nat.{ℕ, _+_, _*_, _≤_, _<_}
+use mathlib.Core.List.{List, [], _∷_, _++_}
+use mathlib.Core.Option.{Option}
 use lib.Dec.{ltb}
-use lib.ListN.{length, drop}
+use lib.ListN.{length, getD, drop}
 use Rattle.hall.specs.Hall.{size}
-use Rattle.lists.specs.Lists.{each}
+use Rattle.lists.specs.Lists.{range, each, firstOf}
 use Rattle.lent.specs.Lent.{zeroed}
 use Rattle.job.specs.Job.{Job, planLength}
 use Rattle.tree.specs.Plan.{Routes}
@@ -26,11 +26,21 @@ plansLength job capacity = capacity * planLength job
 abbrev pub layersLength : Job → ℕ
 layersLength job = (job .horizon + 1) * size (job .hall)
 
--- answer 7: 'a lent table is too short'
-unfoldable pub shortTable : Job → ℕ → Tables → Bool
-shortTable job capacity ts =
-    ltb (length (ts .columns)) (columnsLength capacity) || ltb (length (ts .plans)) (plansLength job capacity)
-    || (ltb (length (ts .layers)) (layersLength job) || ltb (length (ts .output)) (planLength job))
+-- the lent tables by number, in that order from 0: how long each is and how long it must be, in its own entries
+abbrev pub lentLength : Tables → ℕ → ℕ
+lentLength ts t = getD (length (ts .columns) ∷ length (ts .plans) ∷ length (ts .layers) ∷ length (ts .output) ∷ []) t 0
+
+abbrev pub neededLength : Job → ℕ → ℕ → ℕ
+neededLength job capacity t = getD (columnsLength capacity ∷ plansLength job capacity ∷ layersLength job ∷ planLength job ∷ []) t 0
+
+-- answer 7: 'a lent table is too short'; P1: 'the first short table, in document 01's order'
+unfoldable pub firstShort : Job → ℕ → Tables → Option ℕ
+firstShort job capacity ts = firstOf (λ t. ltb (lentLength ts t) (neededLength job capacity t)) (range 0 4)
+
+-- in plain numbers: table t is too short, and none before it
+pub record FirstShort (job : Job) (capacity : ℕ) (ts : Tables) (t : ℕ) : Type 0 where
+  pub short : lentLength ts t < neededLength job capacity t
+  pub first : (s : ℕ) → s < t → neededLength job capacity s ≤ lentLength ts s
 
 -- none is: 'at least' so long
 pub record LongTables (job : Job) (capacity : ℕ) (ts : Tables) : Type 0 where

@@ -30,3 +30,9 @@ three-digits = one-more 100 2 two-digits
 
 pub four-digits : (n : ℕ) → n < 10000 → length (digits n) ≤ 4
 four-digits = one-more 1000 3 three-digits
+
+five-digits : (n : ℕ) → n < 100000 → length (digits n) ≤ 5
+five-digits = one-more 10000 4 four-digits
+
+pub six-digits : (n : ℕ) → n < 1000000 → length (digits n) ≤ 6
+six-digits = one-more 100000 5 five-digits

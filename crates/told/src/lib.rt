@@ -1,4 +1,4 @@
-// The number of each answer, and what is told beside it, as document 01's table has them.
+// The number of each answer, and what is told beside it, as document 01's table and P1 have them.
 use clashes::Clash;
 use clashes::MeetingVerdict;
 use job::Fault;
@@ -6,7 +6,7 @@ use job::Told;
 use planner::Answer;
 use routes::RouteVerdict;
 ghost use mathlib.Core.Path.{_≡_};
-ghost use Rattle.job.specs.Told.{counted as countedTold};
+ghost use Rattle.job.specs.Told.{counted as countedTold, tooShort, fault as faultOf, planTooShort};
 ghost use Rattle.planner.specs.Answer.{answerTold};
 ghost use Rattle.routes.specs.Check.{routeTold};
 ghost use Rattle.clashes.specs.Check.{clashTold, meetingTold};
@@ -21,6 +21,23 @@ fn counted(number: usize, sum: usize, records: usize) -> Told
         records,
         carrier: 0,
         other: 0,
+        table: 0,
+        needed: 0,
+    }
+}
+
+// 7 with the first short table and the length it needed.
+fn too_short(table: usize, needed: usize) -> Told
+    ensures { λ r. ⌜ r ≡ tooShort table needed ⌝ }
+{
+    Told {
+        number: 7,
+        sum: 0,
+        records: 0,
+        carrier: 0,
+        other: 0,
+        table,
+        needed,
     }
 }
 
@@ -31,7 +48,7 @@ pub fn answer_told(answer: Answer) -> Told
     match answer {
         Answer::Plan { sum, records } => counted(0, sum, records),
         Answer::Refused(verdict) => job::verdict_told(verdict),
-        Answer::Short => counted(7, 0, 0),
+        Answer::Short { table, needed } => too_short(table, needed),
         Answer::NoPlan { records } => counted(8, 0, records),
         Answer::Full { records } => counted(9, 0, records),
     }
@@ -46,7 +63,7 @@ fn fault(
     distance: usize,
     swap: usize,
 ) -> Fault
-    ensures { λ r. ⌜ r ≡ record { number = number; carrier = carrier; other = other; step = step; distance = distance; swap = swap } ⌝ }
+    ensures { λ r. ⌜ r ≡ faultOf number carrier other step distance swap ⌝ }
 {
     Fault {
         number,
@@ -55,6 +72,22 @@ fn fault(
         step,
         distance,
         swap,
+        needed: 0,
+    }
+}
+
+// A check's 7 with the length that the plan needed.
+fn plan_too_short(needed: usize) -> Fault
+    ensures { λ r. ⌜ r ≡ planTooShort needed ⌝ }
+{
+    Fault {
+        number: 7,
+        carrier: 0,
+        other: 0,
+        step: 0,
+        distance: 0,
+        swap: 0,
+        needed,
     }
 }
 
@@ -65,7 +98,7 @@ pub fn route_told(verdict: RouteVerdict) -> Fault
     match verdict {
         RouteVerdict::Lawful => fault(0, 0, 0, 0, 0, 0),
         RouteVerdict::Refused(refused) => job::refusal(job::verdict_told(refused)),
-        RouteVerdict::Short => fault(7, 0, 0, 0, 0, 0),
+        RouteVerdict::Short { needed } => plan_too_short(needed),
         RouteVerdict::Wrong { carrier, step } => fault(21, carrier, 0, step, 0, 0),
     }
 }
@@ -95,7 +128,7 @@ pub fn meeting_told(verdict: MeetingVerdict) -> Fault
 {
     match verdict {
         MeetingVerdict::Refused(refused) => job::refusal(job::verdict_told(refused)),
-        MeetingVerdict::Short => fault(7, 0, 0, 0, 0, 0),
+        MeetingVerdict::Short { needed } => plan_too_short(needed),
         MeetingVerdict::Compared(clash) => clash_told(clash),
     }
 }

@@ -1,25 +1,33 @@
 //! `brute SEED COUNT` tries COUNT random small jobs: the planner against brute
 //! force (a) and against the rules taken word by word, routes under random bars
 //! against the list of all routes, and the two plan checks against brute force
-//! (b) and the list of all walks. It prints counts, and stops at the first
-//! difference with the job printed.
+//! (b) and the list of all walks; and, with as many jobs in which ends are often
+//! shared, refusals 6, 16 and 7 against the list of all pairs and each table's
+//! sentence. It prints counts, and stops at the first difference with the job
+//! printed.
 
 use std::collections::BTreeMap;
 use std::process::ExitCode;
 
 use second::bar::{Bar, Barred, CarrierBar};
-use second::brute::{holds, least_sum, loops, tree_by_words, walks};
+use second::brute::{holds, least_sum, loops, refusals, tree_by_words, walks};
 use second::check;
+use second::damage;
 use second::floor::Floor;
 use second::generate;
 use second::job::{Job, MOST_RECORDS};
 use second::planner::{self, PlanAnswer};
 use second::random::Random;
 use second::route;
+use second::tables;
 use second::tree;
 
 /// Records for the jobs that need more than a job's greatest N.
 const MANY_RECORDS: usize = 20_000;
+
+/// The most records for the jobs that are tried for their refusals: few, since
+/// a tree is grown only to see that one is.
+const FEW_RECORDS: usize = 4;
 
 type Counts = BTreeMap<&'static str, usize>;
 type Trial = Result<(), String>;
@@ -33,9 +41,8 @@ fn main() -> ExitCode {
     let mut random = Random::new(seed);
     let mut counts = Counts::new();
     for number in 0..count {
-        let job = generate::small(&mut random);
-        if let Err(difference) = try_job(&mut random, &job, &mut counts) {
-            println!("job {number} of seed {seed}: {difference}\n{job:?}");
+        if let Err(difference) = try_both(&mut random, &mut counts) {
+            println!("job {number} of seed {seed}: {difference}");
             return ExitCode::FAILURE;
         }
     }
@@ -51,6 +58,16 @@ fn request(arguments: &[String]) -> Option<(u64, usize)> {
         return None;
     };
     Some((seed.parse().ok()?, count.parse().ok()?))
+}
+
+/// A small job, and for the refusals also one in which ends are often shared.
+fn try_both(random: &mut Random, counts: &mut Counts) -> Trial {
+    let small = generate::small(random);
+    try_job(random, &small, counts).map_err(|why| format!("{why}\n{small:?}"))?;
+    for job in [small, damage::sharing_job(random)] {
+        try_refusals(random, &job, counts).map_err(|why| format!("{why}\n{job:?}"))?;
+    }
+    Ok(())
 }
 
 fn try_job(random: &mut Random, job: &Job, counts: &mut Counts) -> Trial {
@@ -280,12 +297,14 @@ fn try_checks(job: &Job, routes: &[Vec<u8>], counts: &mut Counts) -> Trial {
         check::meeting_check(job, &plan),
     );
     same("bytes behind the plan", longer, told)?;
-    plan.truncate(routes.concat().len() - 1);
+    let needed = routes.concat().len();
+    plan.truncate(needed - 1);
     let short = (
-        check::route_check(job, &plan).number,
-        check::meeting_check(job, &plan).number,
+        check::route_check(job, &plan).told(),
+        check::meeting_check(job, &plan).told(),
     );
-    same("a plan too short", short, (7, 7))
+    let wanted = [7, 0, 0, 0, 0, 0, needed];
+    same("a plan too short", short, (wanted, wanted))
 }
 
 /// The route check against the list of all walks.
@@ -337,4 +356,61 @@ fn try_meeting_check(job: &Job, routes: &[Vec<u8>], plan: &[u8], counts: &mut Co
         count(counts, "meeting check: told a swap");
     }
     same("meeting told", numbers, wanted).map_err(|why| format!("{routes:?}: {why}"))
+}
+
+/// The refusals of the planner, lent tables of which some are short, and of both
+/// checks, lent a plan that may be.
+fn try_refusals(random: &mut Random, job: &Job, counts: &mut Counts) -> Trial {
+    let n = random.between(1, FEW_RECORDS);
+    let least = tables::least_lengths(job, n);
+    let mut lengths = least;
+    if random.chance(50) {
+        damage::shorten(random, &mut lengths, least);
+    }
+    try_planner_refusal(job, n, lengths, counts)
+        .map_err(|why| format!("N {n}, tables {lengths:?}: {why}"))?;
+    let plan = vec![0; least[3] - random.below(2)];
+    try_check_refusals(job, &plan)
+}
+
+fn try_planner_refusal(job: &Job, n: usize, lengths: [usize; 4], counts: &mut Counts) -> Trial {
+    let told = planner::plan_lent(job, n, lengths).told();
+    let short = refusals::short_table(job, n, lengths);
+    count(counts, sort_of(job, short.is_some()));
+    let wanted = match (refusals::shared(job), short) {
+        (Some((number, i, j)), _) => [number, 0, 0, i, j, 0, 0],
+        (None, Some((table, needed))) => [7, 0, 0, 0, 0, table, needed],
+        (None, None) => PlanAnswer::from(tree::search(job, n)).told(),
+    };
+    same("the planner's refusal", told, wanted)
+}
+
+/// Which ends the job shares, and else whether a table is short.
+fn sort_of(job: &Job, short: bool) -> &'static str {
+    let starts = refusals::with_one_start(job).into_iter().min();
+    let goals = refusals::with_one_goal(job).into_iter().min();
+    match (starts, goals) {
+        (Some(_), None) => "refusals: 6, starts alone",
+        (Some(starts), Some(goals)) if goals < starts => "refusals: 6, a lesser pair has one goal",
+        (Some(_), Some(_)) => "refusals: 6, goals too",
+        (None, Some(_)) if short => "refusals: 16, a table is short too",
+        (None, Some(_)) => "refusals: 16",
+        (None, None) if short => "refusals: 7",
+        (None, None) => "refusals: none",
+    }
+}
+
+fn try_check_refusals(job: &Job, plan: &[u8]) -> Trial {
+    let needed = job.carriers.len() * (job.horizon + 1);
+    let wanted = match refusals::shared(job) {
+        Some((number, i, j)) => Some([number, i, j, 0, 0, 0, 0]),
+        None => (plan.len() < needed).then_some([7, 0, 0, 0, 0, 0, needed]),
+    };
+    let routes = check::route_check(job, plan);
+    let meetings = check::meeting_check(job, plan);
+    for (told, found) in [(routes, 21), (meetings, 22)] {
+        let refused = ![0, found].contains(&told.number);
+        same("a check's refusal", refused.then_some(told.told()), wanted)?;
+    }
+    Ok(())
 }

@@ -5,5 +5,6 @@
 pub mod holds;
 pub mod least_sum;
 pub mod loops;
+pub mod refusals;
 pub mod tree_by_words;
 pub mod walks;

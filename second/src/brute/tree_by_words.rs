@@ -16,7 +16,7 @@ struct Node {
     open: bool,
 }
 
-/// The tree of a job that passed checks 1 to 6, with N from 1.
+/// The tree of a job that passed checks 1 to 6 and 16, with N from 1.
 pub fn search(job: &Job, capacity: usize) -> Told {
     let carriers = job.carriers.iter();
     let ranked: Vec<_> = carriers.map(|c| walks::ranked_routes(job, *c)).collect();

@@ -4,24 +4,27 @@ use Rattle.checks.proofs.WalkCode.{compared-short, compared-whole, comp
 use Rattle.checks.proofs.check_apart.Statement.{statement}
 use Rattle.checks.proofs.check_apart.Tie as tie
 
-short-requires : tie.Need-short-requires
-short-requires c κs = search needs
+needed-length-requires : tie.Need-needed-length-requires
+needed-length-requires c κs = search needs
 
 returns : tie.Need-returns
 returns c =
     let a = c .before .before .before .args in
-    compared-short (a .plan .now) (a .count) (a .k) (a .h) (c .before .short .result) (c .before .short .ensures) (c .if1 .taken)
+    let n = c .before .needed-length in
+    compared-short (a .plan .now) (a .count) (a .k) (a .h) (n .result) (n .ensures) (c .if1 .taken)
 
 first-clash-requires : tie.Need-first-clash-requires
 first-clash-requires c κs =
     let a = c .before .before .before .args in
     let p = c .before .before .before .pre in
-    compared-whole (a .plan .now) (a .count) (a .k) (a .h) (c .before .short .result) (c .before .short .ensures) (p .0) (p .1) (p .2) (c .if1 .left)
+    let n = c .before .needed-length in
+    compared-whole (a .plan .now) (a .count) (a .k) (a .h) (n .result) (n .ensures) (p .0) (p .1) (p .2) (c .if1 .left)
 
 returns-2 : tie.Need-returns-2
 returns-2 c =
     let a = c .before .before .before .before .args in
-    compared-clash (a .plan .now) (a .count) (a .k) (a .h) (c .before .before .short .result) (c .before .before .short .ensures) (c .before .if1 .left) (c .first-clash .result) (c .first-clash .ensures)
+    let n = c .before .before .needed-length in
+    compared-clash (a .plan .now) (a .count) (a .k) (a .h) (n .result) (n .ensures) (c .before .if1 .left) (c .first-clash .result) (c .first-clash .ensures)
 
 pub check-apart-spec : {M : Type 1} → statement M
-check-apart-spec = tie.close (tie.spec short-requires returns first-clash-requires returns-2)
+check-apart-spec = tie.close (tie.spec needed-length-requires returns first-clash-requires returns-2)

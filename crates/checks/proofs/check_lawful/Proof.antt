@@ -8,20 +8,22 @@ use Rattle.checks.proofs.WalkCode.{plan-short, plan-whole, plan-walked,
 use Rattle.checks.proofs.check_lawful.Statement.{statement}
 use Rattle.checks.proofs.check_lawful.Tie as tie
 
-short-requires : tie.Need-short-requires
-short-requires c κs = search needs
+needed-length-requires : tie.Need-needed-length-requires
+needed-length-requires c κs = search needs
 
 returns : tie.Need-returns
 returns c =
     let a = c .before .before .before .before .args in
     let job = jobOf (a .width) (a .height) (a .hall .now) (a .team) 0 (a .h) in
-    plan-short job (a .plan .now) (c .before .short .result) (c .before .short .ensures) (c .if1 .taken)
+    let n = c .before .needed-length in
+    plan-short job (a .plan .now) (n .result) (n .ensures) (c .if1 .taken)
 
 first-wrong-place-requires : tie.Need-first-wrong-place-requires
 first-wrong-place-requires c κs =
     let a = c .before .before .before .before .args in
     let job = jobOf (a .width) (a .height) (a .hall .now) (a .team) 0 (a .h) in
-    record { limits = c .before .before .before .before .pre; whole = plan-whole job (a .plan .now) (c .before .short .result) (c .before .short .ensures) (c .if1 .left) }
+    let n = c .before .needed-length in
+    record { limits = c .before .before .before .before .pre; whole = plan-whole job (a .plan .now) (n .result) (n .ensures) (c .if1 .left) }
 
 enum-told : tie.Need-enum-told
 enum-told c = search needs
@@ -33,24 +35,26 @@ returns-2 : tie.Need-returns-2
 returns-2 c =
     let a = c .before .before .before .before .before .before .before .args in
     let f = c .before .before .first-wrong-place in
+    let n = c .before .before .before .before .needed-length in
     let job = jobOf (a .width) (a .height) (a .hall .now) (a .team) 0 (a .h) in
     let first = firstWrongPlace job (planCell job (a .plan .now)) in
-    none-lawful first (found-nowhere (f .result) first (f .ensures) (c .enum-told .given .1)) ∙ plan-walked job (a .plan .now) (c .before .before .before .before .short .result) (c .before .before .before .before .short .ensures) (c .before .before .before .if1 .left)
+    none-lawful first (found-nowhere (f .result) first (f .ensures) (c .enum-told .given .1)) ∙ plan-walked job (a .plan .now) (n .result) (n .ensures) (c .before .before .before .if1 .left)
 
 returns-3 : tie.Need-returns-3
 returns-3 c =
     let a = c .before .before .before .before .before .before .before .before .args in
     let f = c .before .before .before .first-wrong-place in
+    let n = c .before .before .before .before .before .needed-length in
     let p = c .before .found in
     let job = jobOf (a .width) (a .height) (a .hall .now) (a .team) 0 (a .h) in
     let first = firstWrongPlace job (planCell job (a .plan .now)) in
-    some-wrong first (p .given .0 .0) (p .given .0 .1 .0) (found-place (f .result) first (f .ensures) (p .given .0 .0) (p .given .0 .1 .0) (p .given .1)) ∙ plan-walked job (a .plan .now) (c .before .before .before .before .before .short .result) (c .before .before .before .before .before .short .ensures) (c .before .before .before .before .if1 .left)
+    some-wrong first (p .given .0 .0) (p .given .0 .1 .0) (found-place (f .result) first (f .ensures) (p .given .0 .0) (p .given .0 .1 .0) (p .given .1)) ∙ plan-walked job (a .plan .now) (n .result) (n .ensures) (c .before .before .before .before .if1 .left)
 
 pub check-lawful-spec : {M : Type 1} → statement M
 check-lawful-spec =
     tie.close
     (tie.spec
-    short-requires
+    needed-length-requires
     returns
     first-wrong-place-requires
     enum-told

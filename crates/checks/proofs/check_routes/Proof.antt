@@ -1,4 +1,4 @@
--- `checks::check_routes` meets its contract: what checks 1 to 6 refuse is refused, and an accepted job goes on to its plan. Assumes nothing.
+-- `checks::check_routes` meets its contract: what checks 1 to 6 and 16 refuse is refused, and an accepted job goes on to its plan. Assumes nothing.
 use mathlib.Core.Path.{_∙_}
 use borrow.Author.Needs.{needs}
 use Rattle.job.specs.Team.{jobOf}

@@ -5,6 +5,7 @@ use Rattle.hall.specs.Hall.{wrongGrid}
 use Rattle.hall.proofs.RightHall.{grid-right}
 use Rattle.job.specs.Job.{wrongLimits, wrongCount}
 use Rattle.job.specs.Team.{jobOf}
+use Rattle.job.specs.Found.{sharedBy}
 use Rattle.job.proofs.Due.{count-right}
 use Rattle.job.proofs.JobCode.{judge-grid, judge-bytes, judge-limits, judge-capacity, judge-count, judge-rest, ends-same}
 use Rattle.job.proofs.judge_job.Statement.{statement}
@@ -75,7 +76,7 @@ unfolding wrongGrid wrongLimits wrongCount
 returns-6 c =
     let a = c .before .before .before .before .before .before .before .before .before .before .before .args in
     let job = jobOf (a .width) (a .height) (a .hall .now) (a .team) (a .k) (a .h) in
-    c .judge-ends .ensures ∙ ends-same (a .width) (a .height) (a .hall .now) (a .team) (a .k) (a .h) ∙ judge-rest (a .wrong-n) job (sym (c .before .before .before .before .before .before .before .before .before .wrong-grid .ensures) ∙ c .before .before .before .before .before .before .before .before .if1 .left) (sym (c .before .before .before .before .before .before .before .wrong-bytes .ensures) ∙ c .before .before .before .before .before .before .if2 .left) (sym (c .before .before .before .before .before .wrong-limits .ensures) ∙ c .before .before .before .before .if3 .left) (c .before .before .before .if4 .left) (sym (c .before .before .wrong-count .ensures) ∙ c .before .if5 .left)
+    c .judge-ends .ensures ∙ ends-same (a .width) (a .height) (a .hall .now) (a .team) (a .k) (a .h) (sharedBy (job .startOf) (job .goalOf) (job .count)) ∙ judge-rest (a .wrong-n) job (sym (c .before .before .before .before .before .before .before .before .before .wrong-grid .ensures) ∙ c .before .before .before .before .before .before .before .before .if1 .left) (sym (c .before .before .before .before .before .before .before .wrong-bytes .ensures) ∙ c .before .before .before .before .before .before .if2 .left) (sym (c .before .before .before .before .before .wrong-limits .ensures) ∙ c .before .before .before .before .if3 .left) (c .before .before .before .if4 .left) (sym (c .before .before .wrong-count .ensures) ∙ c .before .if5 .left)
 
 pub judge-job-spec : {M : Type 1} → statement M
 judge-job-spec =

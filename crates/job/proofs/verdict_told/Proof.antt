@@ -45,6 +45,12 @@ enum-known-verdict-2 c = search needs
 named-requires-7 : tie.Need-named-requires-7
 named-requires-7 c κs = search needs
 
+enum-known-verdict-3 : tie.Need-enum-known-verdict-3
+enum-known-verdict-3 c = search needs
+
+named-requires-8 : tie.Need-named-requires-8
+named-requires-8 c κs = search needs
+
 returns : tie.Need-returns
 returns c = cc
 
@@ -66,6 +72,9 @@ returns-6 c = cc
 returns-7 : tie.Need-returns-7
 returns-7 c = cc
 
+returns-8 : tie.Need-returns-8
+returns-8 c = cc
+
 pub verdict-told-spec : {M : Type 1} → statement M
 verdict-told-spec =
     tie.close
@@ -84,10 +93,13 @@ verdict-told-spec =
     named-requires-6
     enum-known-verdict-2
     named-requires-7
+    enum-known-verdict-3
+    named-requires-8
     returns
     returns-2
     returns-3
     returns-4
     returns-5
     returns-6
-    returns-7)
+    returns-7
+    returns-8)

@@ -15,14 +15,14 @@ verdict-told-requires c κs = search needs
 refusal-requires : tie.Need-refusal-requires
 refusal-requires c κs = search needs
 
-enum-told : tie.Need-enum-told
-enum-told c = search needs
-
-fault-requires : tie.Need-fault-requires
-fault-requires c κs = search needs
-
 enum-known-verdict-2 : tie.Need-enum-known-verdict-2
 enum-known-verdict-2 c = search needs
+
+plan-too-short-requires : tie.Need-plan-too-short-requires
+plan-too-short-requires c κs = search needs
+
+enum-known-verdict-3 : tie.Need-enum-known-verdict-3
+enum-known-verdict-3 c = search needs
 
 clash-told-requires : tie.Need-clash-told-requires
 clash-told-requires c κs = search needs
@@ -31,7 +31,7 @@ returns : tie.Need-returns
 returns c = c .refusal .ensures ∙ ap refusal (c .before .verdict-told .ensures) ∙ ap meetingTold (sym (c .before .before .before .verdict .given .1))
 
 returns-2 : tie.Need-returns-2
-returns-2 c = cc
+returns-2 c = c .plan-too-short .ensures ∙ ap meetingTold (sym (c .before .before .verdict2 .given .1))
 
 returns-3 : tie.Need-returns-3
 returns-3 c = search needs
@@ -43,9 +43,9 @@ meeting-told-spec =
     enum-known-verdict
     verdict-told-requires
     refusal-requires
-    enum-told
-    fault-requires
     enum-known-verdict-2
+    plan-too-short-requires
+    enum-known-verdict-3
     clash-told-requires
     returns
     returns-2

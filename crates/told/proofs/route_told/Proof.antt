@@ -21,29 +21,29 @@ verdict-told-requires c κs = search needs
 refusal-requires : tie.Need-refusal-requires
 refusal-requires c κs = search needs
 
-enum-told-2 : tie.Need-enum-told-2
-enum-told-2 c = search needs
+enum-known-verdict-2 : tie.Need-enum-known-verdict-2
+enum-known-verdict-2 c = search needs
+
+plan-too-short-requires : tie.Need-plan-too-short-requires
+plan-too-short-requires c κs = search needs
+
+enum-known-verdict-3 : tie.Need-enum-known-verdict-3
+enum-known-verdict-3 c = search needs
 
 fault-requires-2 : tie.Need-fault-requires-2
 fault-requires-2 c κs = search needs
 
-enum-known-verdict-2 : tie.Need-enum-known-verdict-2
-enum-known-verdict-2 c = search needs
-
-fault-requires-3 : tie.Need-fault-requires-3
-fault-requires-3 c κs = search needs
-
 returns : tie.Need-returns
-returns c = cc
+returns c = c .fault .ensures ∙ ap routeTold (sym (c .before .enum-told .given .1))
 
 returns-2 : tie.Need-returns-2
 returns-2 c = c .refusal .ensures ∙ ap refusal (c .before .verdict-told .ensures) ∙ ap routeTold (sym (c .before .before .before .verdict .given .1))
 
 returns-3 : tie.Need-returns-3
-returns-3 c = cc
+returns-3 c = c .plan-too-short .ensures ∙ ap routeTold (sym (c .before .before .verdict2 .given .1))
 
 returns-4 : tie.Need-returns-4
-returns-4 c = cc
+returns-4 c = c .fault2 .ensures ∙ ap routeTold (sym (c .before .before .verdict3 .given .1))
 
 pub route-told-spec : {M : Type 1} → statement M
 route-told-spec =
@@ -54,10 +54,10 @@ route-told-spec =
     enum-known-verdict
     verdict-told-requires
     refusal-requires
-    enum-told-2
-    fault-requires-2
     enum-known-verdict-2
-    fault-requires-3
+    plan-too-short-requires
+    enum-known-verdict-3
+    fault-requires-2
     returns
     returns-2
     returns-3

@@ -1,10 +1,10 @@
--- `checks::short` meets its contract: at most 8 routes of at most 64 cells fit a number. Assumes nothing.
+-- `checks::needed_length` meets its contract: at most 8 routes of at most 64 cells fit a number. Assumes nothing.
 use Prim.Native.Nat.{_+_, _≤_}
 use native.Mathlib.Nat.{mul-le-mul}
 use native.Mathlib.Omega.{arith}
 use borrow.Author.Needs.{needs}
-use Rattle.checks.proofs.short.Statement.{statement}
-use Rattle.checks.proofs.short.Tie as tie
+use Rattle.checks.proofs.needed_length.Statement.{statement}
+use Rattle.checks.proofs.needed_length.Tie as tie
 
 add-result : tie.Need-add-result
 add-result c = search needs
@@ -17,5 +17,5 @@ mul-result c =
 returns : tie.Need-returns
 returns c = search needs
 
-pub short-spec : {M : Type 1} → statement M
-short-spec = tie.close (tie.spec add-result mul-result returns)
+pub needed-length-spec : {M : Type 1} → statement M
+needed-length-spec = tie.close (tie.spec add-result mul-result returns)
