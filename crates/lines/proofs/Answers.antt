@@ -1,6 +1,6 @@
 -- What the planner's answer tells is small, whatever the job: 0, 8 and 9 come of an accepted job, 0 with a least plan in the output.
 -- Assumes nothing.
-use Prim.Native.Nat.{ℕ, zero, suc, _*_, _≤_, _<_}
+use Prim.Native.Nat.{ℕ, _*_, _≤_, _<_}
 use native.Mathlib.Omega.{arith}
 use mathlib.Core.List.{List}
 use mathlib.Core.Logic.{inl, inr}
@@ -17,8 +17,8 @@ use Rattle.routes.specs.Route.{Lawful, cost}
 use Rattle.routes.proofs.Cost.{cost-least}
 use Rattle.tree.specs.Plan.{Routes, routeOf, total, Family}
 use Rattle.tree.specs.Promises.{LeastPlan}
-use Rattle.tables.specs.Tables.{Tables, FirstShort, LongTables, planWritten}
-use Rattle.tables.proofs.LongTables.{short-not-long}
+use Rattle.tables.specs.Tables.{Tables, LongTables, planWritten}
+use Rattle.tables.proofs.LongTables.{short-in, short-not-long}
 use Rattle.planner.specs.Answer.{answerTold, planned}
 use Rattle.planner.specs.Promises.{Promised}
 use Rattle.planner.specs.declared.Answer.{Answer}
@@ -35,7 +35,7 @@ short-by : (job : Job) (n : ℕ) (ts : Tables) (answer : Answer) (after : Tables
 unfolding Promised Known
 short-by job n ts (Plan s r) after p k is = absurd (omega arith)
 short-by job n ts (Refused v) after p k is = absurd (refusing-alone (verdictTold v .number) 7 (k .1) (inr (omega arith, omega arith)) is)
-short-by job n ts (Short t l) after p k is = (k, short-not-long job n ts t (p .0))
+short-by job n ts (Short t l) after p k is = (k, short-not-long job n ts t (p .2))
 short-by job n ts (NoPlan r) after p k is = absurd (omega arith)
 short-by job n ts (Full r) after p k is = absurd (omega arith)
 
@@ -62,14 +62,6 @@ module _ (job : Job) (n : ℕ) (accepted : judgeWith (wrongCapacity n) job ≡ A
       (λ i l. omega (arith, cost-within job i (routeOf rs i) (family .lawful i l), facts .horizonMost)) in
       omega (arith, facts .countMost)
 
--- there are four tables
-short-in : (job : Job) (n : ℕ) (ts : Tables) (t : ℕ) → FirstShort job n ts t → t ≤ 3
-short-in job n ts zero f = omega arith
-short-in job n ts (suc zero) f = omega arith
-short-in job n ts (suc (suc zero)) f = omega arith
-short-in job n ts (suc (suc (suc zero))) f = omega arith
-short-in job n ts (suc (suc (suc (suc t)))) f = absurd (omega (arith, f .short))
-
 abbrev SmallVerdict : Verdict → Type 0
 SmallVerdict v = Small (verdictTold v)
 
@@ -78,7 +70,7 @@ unfolding Promised Known
 answer-small job n ts (Plan s r) after (rs, least, written, few, need) k =
     counted-small 0 s r (omega arith) (omega (arith, least .told, total-small job n k rs (least .plan .family))) (records-small job n k r few)
 answer-small job n ts (Refused v) after p k = subst SmallVerdict (sym (k .0)) (judged-small job n)
-answer-small job n ts (Short t l) after p k = short-small t l (short-in job n ts t (p .0)) (rw (p .1) (needed-small job n k t))
+answer-small job n ts (Short t l) after p k = short-small t l (omega (arith, short-in job n ts t (p .2))) (rw (p .3) (needed-small job n k t))
 answer-small job n ts (NoPlan r) after p k = counted-small 8 0 r (omega arith) (omega arith) (records-small job n k r (p .1))
 answer-small job n ts (Full r) after p k = counted-small 9 0 r (omega arith) (omega arith) (records-small job n k r (omega (arith, p .0)))
 

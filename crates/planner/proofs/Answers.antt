@@ -16,7 +16,7 @@ use Rattle.job.specs.declared.Verdict.{Verdict}
 use Rattle.job.specs.declared.Verdict.the-variants.{Accepted}
 use Rattle.job.proofs.Accepted.{Facts, accepted-facts, plan-small}
 use Rattle.job.proofs.Due.{open-exact, capacity-exact}
-use Rattle.job.proofs.Refused.{if-accepted, if-refused, Refusal, refusal-refuses}
+use Rattle.job.proofs.Refused.{Refusal, refusal-refuses}
 use Rattle.tree.specs.Tree.{tree}
 use Rattle.tables.specs.Tables.{Tables, plansLength, layersLength, lentLength, neededLength, firstShort, FirstShort, LongTables}
 use Rattle.tables.proofs.LongTables.{LengthsFact, lengths-fact, short-not-long, long-exact, short-one}
@@ -29,6 +29,7 @@ use Rattle.planner.specs.Answer.{Result, searched, ifLong, enough, plann
 use Rattle.planner.specs.Post.{Planned}
 use Rattle.children.specs.Steps.{jobOn, Ready}
 use Rattle.planner.specs.Steps.{jobIn, Limits, Roomy, RanFact, lengthsOf}
+use Rattle.planner.proofs.Checked.{planned-accepted, planned-refused}
 use Rattle.planner.proofs.Promises.{planned-promised}
 
 -- ---- the tests of answer 7
@@ -194,16 +195,14 @@ module _ (job : Job) (capacity : ℕ) (ts : Tables) where
     judged : judgeWith (wrongCapacity capacity) job ≡ v
     judged = ap (λ (b : Bool). judgeWith b job) (sym of-n) ∙ sym is
 
-    pub planned-refused : Refusal v → Planned job capacity ts (Refused v) ts
-    unfolding planned
-    planned-refused k =
-        let e = if-refused (judgeWith (wrongCapacity capacity) job) (enough job capacity ts) (record { answer = Refused (judgeWith (wrongCapacity capacity) job); tables = ts }) (λ a. refusal-refuses v k (sym judged ∙ a)) in
+    pub planned-refusal : Refusal v → Planned job capacity ts (Refused v) ts
+    planned-refusal k =
+        let e = planned-refused job capacity ts (λ a. refusal-refuses v k (sym judged ∙ a)) in
         settled (Refused v) ts (rw (e, judged) refl) (rw e refl)
 
     module _ (yes-to : v ≡ Accepted) where
       is-enough : planned job capacity ts ≡ enough job capacity ts
-      unfolding planned
-      is-enough = if-accepted (judgeWith (wrongCapacity capacity) job) (enough job capacity ts) (record { answer = Refused (judgeWith (wrongCapacity capacity) job); tables = ts }) (judged ∙ yes-to)
+      is-enough = planned-accepted job capacity ts (judged ∙ yes-to)
 
       module _ (lengths : Lengths) (found : lengths ≡ lengthsOf (neededLength job capacity) (firstShort job capacity ts)) where
         pub planned-short : (t l : ℕ) → lengths ≡ Lacking t l → Planned job capacity ts (Short t l) ts

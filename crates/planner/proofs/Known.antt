@@ -3,17 +3,18 @@ use Prim.Native.Nat.{ℕ, _≤_}
 use native.Mathlib.Omega.{arith}
 use mathlib.Core.Logic.{_⊎_, inl, inr}
 use mathlib.Core.Option.{Option, none, some}
-use mathlib.Core.Path.{_≡_, refl, sym, subst}
+use mathlib.Core.Path.{_≡_, refl}
 use Rattle.job.specs.Job.{Job, wrongCapacity}
 use Rattle.job.specs.Verdict.{verdictTold, judgeWith}
 use Rattle.job.specs.declared.Verdict.the-variants.{Accepted}
-use Rattle.job.proofs.Refused.{Refusing, accepts-or-not, refused-numbered, if-accepted, if-refused}
+use Rattle.job.proofs.Refused.{Refusing, refused-numbered}
 use Rattle.search.specs.Search.{Outcome, done, full}
 use Rattle.tree.specs.Tree.{Node, tree}
 use Rattle.tables.specs.Tables.{Tables, firstShort}
 use Rattle.planner.specs.Answer.{Result, answerTold, searched, ifLong, enough, planned}
 use Rattle.planner.specs.declared.Answer.{Answer}
 use Rattle.planner.specs.declared.Answer.the-variants.{Plan, Refused, Short, NoPlan, Full}
+use Rattle.planner.proofs.Checked.{planned-either}
 
 unfoldable pub Known : Job → ℕ → Tables → Answer → Type 0
 Known job n ts (Plan s r) = judgeWith (wrongCapacity n) job ≡ Accepted
@@ -41,14 +42,8 @@ module _ (job : Job) (n : ℕ) (ts : Tables) where
       go none = searched-known (tree job n) e
 
   pub known : Known job n ts (planned job n ts .answer)
-  unfolding Known planned
-  known = go (accepts-or-not (judgeWith (wrongCapacity n) job))
-    where
-      go : (judgeWith (wrongCapacity n) job ≡ Accepted) ⊎ (judgeWith (wrongCapacity n) job ≡ Accepted → ⊥) → KnownOf job n ts (planned job n ts)
-      go (inl e) = subst (KnownOf job n ts) (sym (if-accepted (judgeWith (wrongCapacity n) job) (enough job n ts) (record { answer = Refused (judgeWith (wrongCapacity n) job); tables = ts }) e)) (enough-known e)
-      go (inr other) =
-          subst (KnownOf job n ts) (sym (if-refused (judgeWith (wrongCapacity n) job) (enough job n ts) (record { answer = Refused (judgeWith (wrongCapacity n) job); tables = ts }) other))
-          (refl, refused-numbered (judgeWith (wrongCapacity n) job) other)
+  unfolding Known
+  known = planned-either job n ts (KnownOf job n ts) enough-known (λ other. (refl, refused-numbered (judgeWith (wrongCapacity n) job) other))
 
 -- 0 to 9, or 16
 pub numbered : (job : Job) (n : ℕ) (ts : Tables) (answer : Answer) → Known job n ts answer → (answerTold answer .number ≤ 9) ⊎ (answerTold answer .number ≡ 16)

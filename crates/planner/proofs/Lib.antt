@@ -1,5 +1,6 @@
 pub mod Answers
 pub mod Cells
+pub mod Checked
 pub mod Children
 pub mod Known
 pub mod Promises

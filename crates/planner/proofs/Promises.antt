@@ -1,16 +1,13 @@
--- What the definitions give for any job, any N and any tables keeps the promises: a refused job promises nothing, 7 that the table it tells
+-- What the definitions give for any job, any N and any tables keeps the promises: a refusal is the one that is due, the table that 7 tells
 -- is the first that is short, and after them the tree's own promises are those of the answer. Assumes nothing.
 use Prim.Native.Nat.{ℕ, _≤_, _<_}
 use native.Mathlib.Omega.{arith}
 use native.Mathlib.Decide.{decLe}
 use mathlib.Core.Path.{_≡_, refl, sym, subst}
-use mathlib.Core.Logic.{_⊎_, inl, inr}
 use mathlib.Core.Option.{Option, none, some}
-use Rattle.job.specs.Job.{Job, wrongCapacity}
-use Rattle.job.specs.Verdict.{judgeWith}
-use Rattle.job.specs.declared.Verdict.the-variants.{Accepted}
-use Rattle.job.proofs.Due.{accepted-exactly}
-use Rattle.job.proofs.Refused.{accepts-or-not, if-accepted, if-refused}
+use Rattle.job.specs.Job.{Job}
+use Rattle.job.specs.Due.{RightJob, RightCapacity}
+use Rattle.job.proofs.Due.{accepted-exactly, planner-due}
 use Rattle.search.specs.Search.{Outcome, done, full}
 use Rattle.tree.specs.Tree.{Node, tree}
 use Rattle.tree.specs.Promises.{NeedIs}
@@ -19,7 +16,7 @@ use Rattle.tables.specs.Tables.{Tables, firstShort, workedOn, withPlan}
 use Rattle.tables.proofs.LongTables.{LengthsFact, lengths-fact}
 use Rattle.planner.specs.Answer.{Result, searched, ifLong, enough, planned}
 use Rattle.planner.specs.Promises.{Needed, Promised}
-use Rattle.planner.specs.declared.Answer.the-variants.{Refused}
+use Rattle.planner.proofs.Checked.{planned-either}
 
 abbrev Kept : Job → ℕ → Tables → Result → Type 0
 Kept job capacity ts r = Promised job capacity ts (r .answer) (r .tables)
@@ -58,21 +55,17 @@ module _ (job : Job) (capacity : ℕ) (ts : Tables) (one : 1 ≤ capacity) where
   searched-kept (done none r) e = let (few, need) = ended none r e in (tree-none job capacity one r e, few, need)
   searched-kept (full r) e = short-of r e
 
-  enough-kept : Kept job capacity ts (enough job capacity ts)
+  enough-kept : RightJob job → RightCapacity capacity → Kept job capacity ts (enough job capacity ts)
   unfolding enough ifLong Promised LengthsFact
-  enough-kept = go (firstShort job capacity ts) (lengths-fact job capacity ts)
+  enough-kept right n = go (firstShort job capacity ts) (lengths-fact job capacity ts)
     where
       go : (o : Option ℕ) → LengthsFact job capacity ts o → Kept job capacity ts (ifLong job capacity ts o (searched job capacity ts (tree job capacity)))
-      go (some t) f = (f, refl)
+      go (some t) f = (right, n, f, refl, refl)
       go none f = searched-kept (tree job capacity) refl
 
 pub planned-promised : (job : Job) (capacity : ℕ) (ts : Tables) → Kept job capacity ts (planned job capacity ts)
-unfolding planned Promised
-planned-promised job capacity ts = go (accepts-or-not (judgeWith (wrongCapacity capacity) job))
-  where
-    go : (judgeWith (wrongCapacity capacity) job ≡ Accepted) ⊎ (judgeWith (wrongCapacity capacity) job ≡ Accepted → ⊥) → Kept job capacity ts (planned job capacity ts)
-    go (inl e) =
-        subst (Kept job capacity ts) (sym (if-accepted (judgeWith (wrongCapacity capacity) job) (enough job capacity ts) (record { answer = Refused (judgeWith (wrongCapacity capacity) job); tables = ts }) e))
-        (enough-kept job capacity ts (accepted-exactly job capacity .0 e .1 .least))
-    go (inr other) =
-        subst (Kept job capacity ts) (sym (if-refused (judgeWith (wrongCapacity capacity) job) (enough job capacity ts) (record { answer = Refused (judgeWith (wrongCapacity capacity) job); tables = ts }) other)) tt
+unfolding Promised
+planned-promised job capacity ts =
+    planned-either job capacity ts (Kept job capacity ts)
+    (λ e. let (right, n) = accepted-exactly job capacity .0 e in enough-kept job capacity ts (n .least) right n)
+    (λ other. (λ r. other (accepted-exactly job capacity .1 r), planner-due job capacity, refl))

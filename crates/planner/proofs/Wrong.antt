@@ -1,8 +1,8 @@
 -- Wrong answers of `plan` besides document 01's broken planners, each refuted at a small job: the contract says that answer and tables
 -- equal `planned`. Assumes nothing.
-use Prim.Native.Nat.{ℕ}
+use Prim.Native.Nat.{ℕ, _<_}
 use native.Mathlib.Omega.{arith}
-use mathlib.Core.Path.{_≡_, sym, ap, _∙_}
+use mathlib.Core.Path.{_≡_, refl, sym, ap, _∙_}
 use mathlib.Core.List.{List, [], _∷_}
 use lib.ListN.{getD, replicate}
 use Rattle.lists.specs.Lists.{range, sumTo, only, keep, anyOf, firstOf, each, refuseIf}
@@ -10,7 +10,11 @@ use Rattle.lent.specs.Lent.{zeroed}
 use Rattle.hall.specs.Hall.{wrongSide, wrongGrid, wrongByte, wrongBytes, isOpen}
 use Rattle.hall.specs.Moves.{onGrid, cellAt, landing, reachFrom, reach}
 use Rattle.job.specs.Job.{Job, wrongLimits, wrongCapacity, wrongCount, wrongEnds, firstWrong, share, pairs, firstShared}
+use Rattle.job.specs.Due.{RightCapacity}
+use Rattle.job.specs.Told.{named}
 use Rattle.job.specs.Verdict.{endsVerdict, sharedVerdict, judgeWith, ifAccepted}
+use Rattle.job.specs.declared.Verdict.the-variants.{SharedGoal}
+use Rattle.job.proofs.Due.{due-sixteen}
 use Rattle.routes.specs.Route.{stepCost, cost}
 use Rattle.routes.specs.Bars.{barsFor, mayStand, mayTurn}
 use Rattle.routes.specs.Best.{cheaper, better, bestOf, inFront, bestWay, bestRoute}
@@ -20,6 +24,8 @@ use Rattle.tree.specs.Plan.{total}
 use Rattle.tables.specs.Tables.{Tables, firstShort, workedOn, planWritten, withPlan}
 use Rattle.tree.specs.Tree.{routeUnder, withRoute, freeRoutes, rootOf, root, nodeSum, clashOf, isClear, nodeClear, tree}
 use Rattle.planner.specs.Answer.{Result, answerTold, searched, ifLong, enough, planned}
+use Rattle.planner.specs.Promises.{Promised}
+use Rattle.planner.specs.declared.Answer.the-variants.{Refused, Short}
 use Rattle.planner.specs.Stars.{Star, starJob, starTables, Seen, asked, given, stars, lastJob}
 use Rattle.planner.proofs.Stars.{stars-hold}
 
@@ -112,3 +118,14 @@ meeting =
 pub seven-given-before-16 : (r : Result) → r ≡ planned meeting 3 (zeros 0 0 0 0) → answerTold (r .answer) .number ≡ 7 → ⊥
 unfolding range anyOf firstOf each wrongSide wrongGrid wrongByte wrongBytes isOpen wrongLimits wrongCapacity wrongCount wrongEnds firstWrong share pairs firstShared refuseIf endsVerdict sharedVerdict judgeWith ifAccepted firstShort ifLong enough planned
 seven-given-before-16 r e wrong = let z : _≡_ {A = ℕ} 7 16 = sym wrong ∙ ap (λ (x : Result). answerTold (x .answer) .number) e in omega arith
+
+-- ---- the plain promise refuses by itself, without the equation: 16 where two carriers share a start, 7 where two share a goal
+
+module _ (job : Job) (n : ℕ) (before after : Tables) (i j : ℕ) (less : i < j) (inside : j < job .count) where
+  pub promise-refuses-16-before-6 : (a b : ℕ) → job .startOf i ≡ job .startOf j → Promised job n before (Refused (SharedGoal a b)) after → ⊥
+  unfolding Promised
+  promise-refuses-16-before-6 a b shared p = due-sixteen job (RightCapacity n) (named 16 a b) (p .1) refl .0 i j less inside shared
+
+  pub promise-refuses-7-before-16 : (t l : ℕ) → job .goalOf i ≡ job .goalOf j → Promised job n before (Short t l) after → ⊥
+  unfolding Promised
+  promise-refuses-7-before-16 t l shared p = p .0 .goals i j less inside shared

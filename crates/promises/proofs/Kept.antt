@@ -8,11 +8,10 @@ use mathlib.Core.Logic.{_⊎_, inl, inr}
 use mathlib.Core.Option.{Option, none, some, Option·some-ne-none}
 use Rattle.job.specs.Job.{Job, wrongCapacity}
 use Rattle.job.specs.Due.{RightJob, RightCapacity, Due}
-use Rattle.job.specs.Verdict.{verdictTold, judgeWith, ifAccepted}
+use Rattle.job.specs.Verdict.{verdictTold, judgeWith}
 use Rattle.job.specs.declared.Told.{Told}
-use Rattle.job.specs.declared.Verdict.the-variants.{Accepted}
 use Rattle.job.proofs.Due.{accepted-exactly as exactly, checks-accept-exactly as checks-exactly, planner-due}
-use Rattle.job.proofs.Refused.{refusing-alone, if-refused}
+use Rattle.job.proofs.Refused.{refusing-alone}
 use Rattle.checks.specs.Demand.{Passes}
 use Rattle.search.specs.Search.{Outcome, done, full}
 use Rattle.tree.specs.Plan.{Routes}
@@ -25,6 +24,7 @@ use Rattle.planner.specs.Answer.{answerTold, Result, searched, ifLong, enough, 
 use Rattle.planner.specs.Promises.{Promised}
 use Rattle.planner.specs.declared.Answer.{Answer}
 use Rattle.planner.specs.declared.Answer.the-variants.{Plan, Refused, Short, NoPlan, Full}
+use Rattle.planner.proofs.Checked.{planned-accepted, planned-refused}
 use Rattle.planner.proofs.Known.{Known, known, numbered}
 use Rattle.lines.specs.Program.{programTables, programText}
 use Rattle.lines.proofs.Whole.{plan-printed as printed}
@@ -41,13 +41,8 @@ record Seen (result : Result) (told : Told) (after : Tables) : Type 0 where
   leaves : after ≡ result .tables
 
 module _ (job : Job) (n : ℕ) (before : Tables) where
-  planned-refused : (judgeWith (wrongCapacity n) job ≡ Accepted → ⊥) → planned job n before ≡ record { answer = Refused (judgeWith (wrongCapacity n) job); tables = before }
-  unfolding planned
-  planned-refused k = if-refused (judgeWith (wrongCapacity n) job) (enough job n before) (record { answer = Refused (judgeWith (wrongCapacity n) job); tables = before }) k
-
-  planned-accepted : RightJob job → RightCapacity n → planned job n before ≡ enough job n before
-  unfolding planned ifAccepted
-  planned-accepted right capacity = ap (λ v. ifAccepted v (enough job n before) (record { answer = Refused v; tables = before })) (exactly job n .1 (right, capacity))
+  planned-right : RightJob job → RightCapacity n → planned job n before ≡ enough job n before
+  planned-right right capacity = planned-accepted job n before (exactly job n .1 (right, capacity))
 
   -- a table that is too short is told with the length it needed
   enough-short : (LongTables job n before → ⊥) → (t : ℕ) × FirstShort job n before t × (enough job n before ≡ record { answer = Short t (neededLength job n t); tables = before })
@@ -73,7 +68,7 @@ module _ (job : Job) (n : ℕ) (before : Tables) where
 
     -- a job that runs is searched
     seen-end : (o : Outcome Node) → Runs job n before → tree job n ≡ o → Seen (searched job n before o) told after
-    seen-end o runs e = seen (searched job n before o) (planned-accepted (runs .right) (runs .capacity) ∙ enough-long (runs .long) ∙ ap (searched job n before) e)
+    seen-end o runs e = seen (searched job n before o) (planned-right (runs .right) (runs .capacity) ∙ enough-long (runs .long) ∙ ap (searched job n before) e)
 
     -- what its number tells of the job
     known-of : Known job n before (p .answer)
@@ -105,7 +100,7 @@ pub short-is-seven : ShortIsSeven OurPlanner
 unfolding ShortIsSeven
 short-is-seven job n before told after p right capacity short =
     let (t, first, e) = enough-short job n before short in
-    let s = seen job n before told after p (record { answer = Short t (neededLength job n t); tables = before }) (planned-accepted job n before right capacity ∙ e) in
+    let s = seen job n before told after p (record { answer = Short t (neededLength job n t); tables = before }) (planned-right job n before right capacity ∙ e) in
     (t, first, s .tells, s .leaves)
 
 left-by : (job : Job) (n : ℕ) (before : Tables) (o : Outcome Node) → Left job n before (answerTold (searched job n before o .answer)) (searched job n before o .tables)

@@ -49,6 +49,14 @@ module _ (job : Job) (n : ℕ) (ts : Tables) where
       (first-fact isShort (λ t. t < 4) (range 0 4) (every-below (λ t. t < 4) 4 (λ t l. l)))
       (first-least isShort (λ s t. s ≤ t) (λ t. omega arith) (range 0 4) (ordered-range (λ s t. s ≤ t) 0 4 (λ s t low less high. omega arith)))
 
+  -- there are four tables
+  pub short-in : (t : ℕ) → FirstShort job n ts t → t < 4
+  short-in zero f = omega arith
+  short-in (suc zero) f = omega arith
+  short-in (suc (suc zero)) f = omega arith
+  short-in (suc (suc (suc zero))) f = omega arith
+  short-in (suc (suc (suc (suc t)))) f = absurd (omega (arith, f .short))
+
   -- a short table is none that is long enough
   pub short-not-long : (t : ℕ) → FirstShort job n ts t → LongTables job n ts → ⊥
   short-not-long zero f long = omega (arith, f .short, long .columns)

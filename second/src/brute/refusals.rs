@@ -1,29 +1,24 @@
 //! Refusals 6, 16 and 7 by their words: all pairs of carriers are listed, and
 //! each table is asked by its own sentence.
 
-use crate::job::Job;
+use crate::job::{Carrier, Job};
 
 /// All pairs i < j of "two carriers with one start".
 pub fn with_one_start(job: &Job) -> Vec<(usize, usize)> {
-    let carriers = &job.carriers;
-    let mut pairs = Vec::new();
-    for j in 0..carriers.len() {
-        for i in 0..j {
-            if carriers[i].start == carriers[j].start {
-                pairs.push((i, j));
-            }
-        }
-    }
-    pairs
+    with_one(job, |carrier| carrier.start)
 }
 
 /// All pairs i < j with "one goal".
 pub fn with_one_goal(job: &Job) -> Vec<(usize, usize)> {
+    with_one(job, |carrier| carrier.goal)
+}
+
+fn with_one(job: &Job, end: fn(&Carrier) -> u8) -> Vec<(usize, usize)> {
     let carriers = &job.carriers;
     let mut pairs = Vec::new();
     for j in 0..carriers.len() {
         for i in 0..j {
-            if carriers[i].goal == carriers[j].goal {
+            if end(&carriers[i]) == end(&carriers[j]) {
                 pairs.push((i, j));
             }
         }

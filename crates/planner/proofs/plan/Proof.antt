@@ -2,7 +2,7 @@
 use mathlib.Core.Path.{sym, _∙_}
 use borrow.Author.Needs.{needs}
 use Rattle.job.specs.Team.{jobOf}
-use Rattle.planner.proofs.Answers.{limits, ready, roomy, short-any, planned-refused, planned-short, planned-ran}
+use Rattle.planner.proofs.Answers.{limits, ready, roomy, short-any, planned-refusal, planned-short, planned-ran}
 use Rattle.planner.proofs.plan.Statement.{statement}
 use Rattle.planner.proofs.plan.Tie as tie
 
@@ -91,7 +91,7 @@ returns-3 c =
     let v = c .before .judge-job in
     let wrong-capacity = c .before .before .wrong-capacity in
     let m = c .match in
-    planned-refused (jobOf (a .width) (a .height) (a .hall .now) (a .team) (a .k) (a .h)) (a .n) (record { columns = a .columns .now; plans = a .plans .now; layers = a .layers .now; output = a .output .now }) (v .result) (wrong-capacity .result) (v .ensures) (wrong-capacity .ensures) (m .keys2)
+    planned-refusal (jobOf (a .width) (a .height) (a .hall .now) (a .team) (a .k) (a .h)) (a .n) (record { columns = a .columns .now; plans = a .plans .now; layers = a .layers .now; output = a .output .now }) (v .result) (wrong-capacity .result) (v .ensures) (wrong-capacity .ensures) (m .keys2)
 
 pub plan-spec : {M : Type 1} → statement M
 plan-spec =
