@@ -1,4 +1,4 @@
-//! With the feature `proved-route` or `proved`: links the one or two objects that
+//! With the features `proved-route`, `proved` and `before`: links the objects that
 //! `run` has put into the directory named by `PROVED_DIR`.
 
 use std::env;
@@ -7,6 +7,8 @@ fn main() {
     println!("cargo:rerun-if-env-changed=PROVED_DIR");
     link_if("CARGO_FEATURE_PROVED_ROUTE", "route.o");
     link_if("CARGO_FEATURE_PROVED", "plan.o");
+    link_if("CARGO_FEATURE_BEFORE", "before_route.o");
+    link_if("CARGO_FEATURE_BEFORE", "before_plan.o");
 }
 
 fn link_if(feature: &str, object: &str) {

@@ -50,9 +50,12 @@
 extern "C" {
 #endif
 
-/* The version of this header and of the archive beside it; as a number, major * 10000 + minor * 100 + patch. */
-#define ADFULMISE_VERSION "0.2.0"
-#define ADFULMISE_VERSION_NUMBER 200
+/*
+ * The version of this header and of the archive beside it; as a number, major * 10000 + minor * 100 + patch. From 0.3.0 on layers is
+ * twice as long as before: a caller that lends the old length is refused with 7.
+ */
+#define ADFULMISE_VERSION "0.3.0"
+#define ADFULMISE_VERSION_NUMBER 300
 
 /*
  * The least length of each lent table in its own entries, for a job that is not refused: n records, m carriers, the horizon h, a hall
@@ -60,14 +63,15 @@ extern "C" {
  */
 #define ADFULMISE_COLUMNS_LENGTH(n) ((size_t)8 * (size_t)(n))
 #define ADFULMISE_PLANS_LENGTH(n, m, h) ((size_t)(n) * ADFULMISE_OUTPUT_LENGTH(m, h))
-#define ADFULMISE_LAYERS_LENGTH(width, height, h) (((size_t)(h) + 1) * (size_t)(width) * (size_t)(height))
+#define ADFULMISE_LAYERS_LENGTH(width, height, h) ((size_t)2 * ((size_t)(h) + 1) * (size_t)(width) * (size_t)(height))
 #define ADFULMISE_OUTPUT_LENGTH(m, h) ((size_t)(m) * ((size_t)(h) + 1))
 
 /*
  * The stack that a call of adfulmise_plan with n records needs, and that each of the other three needs, in bytes. The planner goes up
- * the chain of a node's ancestors by recursion, at most n - 1 deep, and takes 32 bytes a level: 52 KB for n = 1024, 24 KB for n = 128.
+ * the chain of a node's ancestors by recursion, at most n - 1 deep, and takes 32 bytes a level: 42 KB for n = 1024, 14 KB for n = 128.
+ * That includes what a linker takes that binds memset and memcpy, the two functions from outside, only when they are first called.
  */
-#define ADFULMISE_PLAN_STACK(n) ((size_t)20480 + (size_t)32 * (size_t)(n))
+#define ADFULMISE_PLAN_STACK(n) ((size_t)10240 + (size_t)32 * (size_t)(n))
 #define ADFULMISE_OTHER_STACK ((size_t)1024)
 
 /* A carrier: the cell it starts from and the cell it has to reach. Two bytes, no more. */
@@ -110,12 +114,14 @@ enum {
 };
 
 /*
- * The plan of least sum of costs under which no delays within k bring two carriers together.
+ * The plan of least sum of costs under which no delays within k bring two carriers together. Of the routes that the bars of the
+ * search leave a carrier, it takes one of least cost, among these one of fewest moves, a stay being no move, and among these the
+ * first in dictionary order of its cells.
  *
  *   n        how many records the search may use, 1 to 1024
  *   columns  at least 8 * n entries
  *   plans    at least n * m * (h + 1) bytes, for m carriers
- *   layers   at least (h + 1) * width * height bytes
+ *   layers   at least 2 * (h + 1) * width * height bytes
  *   output   at least m * (h + 1) bytes. For 0 its first m * (h + 1) bytes become the plan: carrier by carrier, its cells for
  *            the steps 0 to h. For every other number it is left as it was
  *   told     its first seven entries become number, sum, records, carrier, other, table, needed; with fewer it is left as it was

@@ -4,7 +4,7 @@
 //! |---------------|----------------------------------------------------------|
 //! | [`task`]      | the arguments of a call, and the lent tables             |
 //! | [`yardstick`] | document 01's rules in Rust, for speed                   |
-//! | `proved`      | the proved planner behind its C functions (feature)      |
+//! | `proved`      | proved planners behind their C functions (features)      |
 //! | [`side`]      | what the benchmark asks of either                        |
 //! | [`families`]  | the inputs                                               |
 //! | [`measure`]   | medians of interleaved rounds                            |
@@ -14,7 +14,7 @@
 pub mod compare;
 pub mod families;
 pub mod measure;
-#[cfg(feature = "proved-route")]
+#[cfg(any(feature = "proved-route", feature = "before"))]
 pub mod proved;
 pub mod report;
 pub mod side;

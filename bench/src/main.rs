@@ -9,7 +9,7 @@ use bench::families::{
     PlanFamily, RouteFamily, SEED, deepest_chain, plan_families, route_families,
 };
 use bench::measure::median_passes;
-use bench::report::{self, FACTS, Row, print_head, print_row};
+use bench::report::{self, Counts, Row, print_head, print_row};
 use bench::side::Side;
 use bench::task::Tables;
 use bench::yardstick::{BY_CELL, BY_LAYER};
@@ -21,36 +21,37 @@ const PLAN_ROUNDS: usize = 5;
 /// Where the best route's archive alone is linked, plans are left out.
 const WITH_PLANS: bool = cfg!(feature = "proved") || !cfg!(feature = "proved-route");
 
-/// The proved planner first, if it is linked; ratios are of the first to the
-/// others.
+/// The proved planner first, if it is linked, and an earlier one last; ratios are of
+/// the first to the others.
 fn sides() -> Vec<&'static dyn Side> {
     vec![
         #[cfg(feature = "proved-route")]
-        &bench::proved::Proved,
+        &bench::proved::PROVED,
         &BY_CELL,
         &BY_LAYER,
+        #[cfg(feature = "before")]
+        &bench::proved::BEFORE,
     ]
 }
 
 fn main() -> ExitCode {
     let sides = sides();
-    let mut random = Random::new(SEED);
     println!("seed {SEED}; medians of {ROUTE_ROUNDS} rounds for routes, {PLAN_ROUNDS} for plans;");
     println!(
         "processor time; sides interleaved on the same inputs; buffers not cleared in between"
     );
-    let mut differences = report_routes(&sides, &mut random);
+    let mut differences = report_routes(&sides);
     if WITH_PLANS {
-        differences += report_plans(&sides, &mut random);
+        differences += report_plans(&sides);
     }
     println!("\ninputs on which a side differs from the first: {differences}");
     ExitCode::from(u8::from(differences > 0))
 }
 
-fn report_routes(sides: &[&dyn Side], random: &mut Random) -> usize {
+fn report_routes(sides: &[&dyn Side]) -> usize {
     print_head("best route", "", sides);
     let mut differences = 0;
-    for family in route_families(random) {
+    for family in route_families(&mut Random::new(SEED)) {
         differences += count_differences(family.name, &family.tasks, |task| {
             differing_routes(sides, task)
         });
@@ -59,10 +60,12 @@ fn report_routes(sides: &[&dyn Side], random: &mut Random) -> usize {
     differences
 }
 
-fn report_plans(sides: &[&dyn Side], random: &mut Random) -> usize {
-    print_head("planner", FACTS, sides);
+/// The jobs are drawn from the seed anew, so that they are the same whatever routes
+/// were drawn.
+fn report_plans(sides: &[&dyn Side]) -> usize {
+    print_head("planner", &report::facts_head(sides), sides);
     let mut differences = 0;
-    for family in plan_families(random) {
+    for family in plan_families(&mut Random::new(SEED)) {
         differences += count_differences(&family.name, &family.tasks, |task| {
             differing_plans(sides, task)
         });
@@ -102,7 +105,7 @@ fn measured_routes<'a>(sides: &[&dyn Side], family: &'a RouteFamily) -> Row<'a> 
         facts: String::new(),
         seconds,
         calls: family.tasks.len(),
-        records: 0,
+        records: Vec::new(),
     }
 }
 
@@ -113,19 +116,24 @@ fn measured_plans<'a>(sides: &[&dyn Side], family: &'a PlanFamily) -> Row<'a> {
             black_box(side.plan(black_box(task), &mut tables));
         }
     });
-    let told: Vec<_> = family
-        .tasks
-        .iter()
-        .map(|task| planned(&BY_CELL, task).0)
-        .collect();
-    let records = told.iter().map(|told| told[2]).sum();
-    let answers = [0, 8, 9].map(|number| told.iter().filter(|told| told[0] == number).count());
+    let counts: Vec<_> = sides.iter().map(|side| counted(*side, family)).collect();
     let deepest = family.tasks.iter().map(deepest_chain).max().unwrap_or(0);
     Row {
         name: &family.name,
-        facts: report::facts(answers, records, told.len(), deepest),
+        facts: report::facts(sides, &counts, deepest),
         seconds,
         calls: family.tasks.len(),
-        records,
+        records: counts.iter().map(|counts| counts.records).collect(),
+    }
+}
+
+/// What a side's answers to a family's jobs were.
+fn counted(side: &dyn Side, family: &PlanFamily) -> Counts {
+    let told: Vec<_> = (family.tasks.iter())
+        .map(|task| planned(side, task).0)
+        .collect();
+    Counts {
+        answers: [0, 8, 9].map(|number| told.iter().filter(|told| told[0] == number).count()),
+        records: told.iter().map(|told| told[2]).sum(),
     }
 }

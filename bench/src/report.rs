@@ -11,18 +11,57 @@ pub struct Row<'a> {
     pub seconds: Vec<f64>,
     /// Calls in a pass.
     pub calls: usize,
-    /// Records made in a pass, 0 for routes.
+    /// Records made in a pass by each side, none for routes.
+    pub records: Vec<usize>,
+}
+
+/// What a side's answers to a family's jobs were.
+pub struct Counts {
+    /// How many were 0, 8 and 9.
+    pub answers: [usize; 3],
     pub records: usize,
 }
 
-/// The head of the planner's [`Row::facts`].
-pub const FACTS: &str = "  ans. 0/8/9  rec. a job  deepest";
+impl Counts {
+    fn jobs(&self) -> usize {
+        self.answers.iter().sum()
+    }
+}
+
+/// The head of the planner's [`Row::facts`]: those of all sides, and of an earlier
+/// one its own.
+pub fn facts_head(sides: &[&dyn Side]) -> String {
+    let earlier = earlier(sides).map(|(_, side)| format!("  {0} 0/8/9  {0} rec.", side.name()));
+    format!(
+        "  ans. 0/8/9  rec. a job  deepest{}",
+        String::from_iter(earlier)
+    )
+}
 
 /// The planner's facts under their head.
-pub fn facts(answers: [usize; 3], records: usize, jobs: usize, deepest: usize) -> String {
-    let [found, none, full] = answers;
-    let answers = format!("{found}/{none}/{full}");
-    format!("{answers:>12} {:>11} {deepest:>8}", records / jobs)
+pub fn facts(sides: &[&dyn Side], counts: &[Counts], deepest: usize) -> String {
+    let columns = |counts: &Counts| {
+        let [found, none, full] = counts.answers;
+        (
+            format!("{found}/{none}/{full}"),
+            counts.records / counts.jobs().max(1),
+        )
+    };
+    let (answers, records) = columns(&counts[0]);
+    let earlier = earlier(sides).map(|(number, side)| {
+        let width = side.name().len();
+        let (answers, records) = columns(&counts[number]);
+        format!("{answers:>0$} {records:>1$}", width + 8, width + 6)
+    });
+    format!(
+        "{answers:>12} {records:>11} {deepest:>8}{}",
+        String::from_iter(earlier)
+    )
+}
+
+fn earlier<'a>(sides: &'a [&dyn Side]) -> impl Iterator<Item = (usize, &'a dyn Side)> {
+    let numbered = sides.iter().copied().enumerate();
+    numbered.filter(|(_, side)| side.earlier())
 }
 
 /// The head of a table: its title, the facts, a time for each side, a ratio of
@@ -52,10 +91,8 @@ pub fn print_row(row: &Row) {
     for seconds in &row.seconds[1..] {
         print!("{:>18.2}", row.seconds[0] / seconds);
     }
-    if row.records > 0 {
-        for seconds in &row.seconds {
-            print!("{:>22.0}", row.records as f64 / seconds);
-        }
+    for (records, seconds) in row.records.iter().zip(&row.seconds) {
+        print!("{:>22.0}", *records as f64 / seconds);
     }
     println!();
 }

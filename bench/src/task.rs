@@ -26,7 +26,7 @@ pub struct RouteTask {
 impl RouteTask {
     /// The least length of the lent layers.
     pub fn layers_len(&self) -> usize {
-        (self.h + 1) * self.width * self.height
+        2 * (self.h + 1) * self.width * self.height
     }
 
     /// The least length of the lent stretch.
@@ -76,9 +76,10 @@ impl PlanTask {
         self.n * self.stretch_len()
     }
 
-    /// "layers, bytes, at least (H + 1) × width × height".
+    /// "layers, bytes, at least (H + 1) × width × height", and document 02's "twice
+    /// its length".
     pub fn layers_len(&self) -> usize {
-        (self.h + 1) * self.width * self.height
+        2 * (self.h + 1) * self.width * self.height
     }
 }
 

@@ -129,20 +129,16 @@ fn short_tables() {
 
 const CAPACITY: usize = 200;
 
-/// A call under random bars, a third of them another carrier's.
-fn chained(random: &mut Random) -> (RouteTask, Job, Vec<CarrierBar>) {
-    let job = generate::job(random);
+/// A call for carrier 0 under these bars.
+fn under(job: &Job, bars: &[CarrierBar]) -> RouteTask {
     let mut columns = vec![0; 8 * CAPACITY];
     write_root(&mut columns, CAPACITY);
-    let bars: Vec<_> = (0..random.between(0, 60))
-        .map(|_| any_bar(random, &job))
-        .collect();
     for (parent, own) in bars.iter().enumerate() {
         let bar = translated(own.bar);
         write_record(&mut columns, CAPACITY, parent + 1, parent, own.carrier, bar);
     }
     let Carrier { start, goal } = job.carriers[0];
-    let task = RouteTask {
+    RouteTask {
         hall: job.hall.clone(),
         width: job.width,
         height: job.height,
@@ -153,8 +149,14 @@ fn chained(random: &mut Random) -> (RouteTask, Job, Vec<CarrierBar>) {
         capacity: CAPACITY,
         node: bars.len(),
         carrier: 0,
-    };
-    (task, job, bars)
+    }
+}
+
+/// Random bars, a third of them another carrier's.
+fn random_bars(random: &mut Random, job: &Job) -> Vec<CarrierBar> {
+    (0..random.between(0, 60))
+        .map(|_| any_bar(random, job))
+        .collect()
 }
 
 /// A bar of either kind; a crossing leads from one cell to another, never to
@@ -196,30 +198,72 @@ fn translated(bar: bar::Bar) -> Bar {
     }
 }
 
+/// The second program's best route of carrier 0, which both yardsticks find too.
+fn compared_route(job: &Job, bars: &[CarrierBar]) -> Option<Vec<u8>> {
+    let task = under(job, bars);
+    let ends = job.carriers[0];
+    let barred = Barred::of(0, bars);
+    let best = route::best_route(&Floor::new(job), ends, job.horizon, &barred);
+    let cost = best
+        .as_ref()
+        .map_or(NO_ROUTE, |best| route::cost(best, ends.goal));
+    for side in SIDES {
+        let mut layers = vec![7; task.layers_len()];
+        let mut stretch = vec![7; task.stretch_len()];
+        let untouched = stretch.clone();
+        let told = side.best_route(&task, &mut layers, &mut stretch);
+        assert_eq!(told, cost, "{job:?} {bars:?}");
+        let expected = best.clone().unwrap_or(untouched);
+        assert_eq!(stretch, expected, "{job:?} {bars:?}");
+    }
+    best
+}
+
 #[test]
 fn routes_under_random_bars() {
     let mut random = Random::new(155);
     let mut found = 0;
     for _ in 0..4000 {
-        let (task, job, bars) = chained(&mut random);
-        let barred = Barred::of(0, &bars);
-        let ends = job.carriers[0];
-        let best = route::best_route(&Floor::new(&job), ends, job.horizon, &barred);
-        let cost = best
-            .as_ref()
-            .map_or(NO_ROUTE, |best| route::cost(best, ends.goal));
-        found += usize::from(best.is_some());
-        for side in SIDES {
-            let mut layers = vec![7; task.layers_len()];
-            let mut stretch = vec![7; task.stretch_len()];
-            let untouched = stretch.clone();
-            let told = side.best_route(&task, &mut layers, &mut stretch);
-            assert_eq!(told, cost, "{job:?} {bars:?}");
-            assert_eq!(
-                stretch,
-                best.clone().unwrap_or(untouched),
-                "{job:?} {bars:?}"
-            );
+        let job = generate::job(&mut random);
+        let bars = random_bars(&mut random, &job);
+        found += usize::from(compared_route(&job, &bars).is_some());
+    }
+    assert!(found > 2000, "only {found} routes");
+}
+
+/// A bar on a random step of a route up to its cost; a crossing more often than not
+/// where the carrier moves.
+fn bar_on(random: &mut Random, route: &[u8], cost: usize) -> bar::Bar {
+    let step = random.below(cost);
+    let (from, to) = (route[step], route[step + 1]);
+    if from != to && random.chance(70) {
+        return bar::Bar::Crossing { from, to, step };
+    }
+    bar::Bar::Standing {
+        cell: to,
+        first: step + 1,
+        last: step + 1 + random.below(3),
+    }
+}
+
+/// Each bar stands in the way of the best route under those before it, so that the
+/// second best have to be told apart, and theirs.
+#[test]
+fn routes_under_bars_in_their_way() {
+    let mut random = Random::new(157);
+    let mut found = 0;
+    for _ in 0..400 {
+        let job = generate::job(&mut random);
+        let goal = job.carriers[0].goal;
+        let mut bars = Vec::new();
+        while let Some(best) = compared_route(&job, &bars) {
+            found += 1;
+            let cost = route::cost(&best, goal);
+            if cost == 0 || bars.len() == 40 {
+                break;
+            }
+            let bar = bar_on(&mut random, &best, cost);
+            bars.push(CarrierBar { carrier: 0, bar });
         }
     }
     assert!(found > 2000, "only {found} routes");
@@ -227,7 +271,9 @@ fn routes_under_random_bars() {
 
 #[test]
 fn bad_arguments() {
-    let (task, ..) = chained(&mut Random::new(156));
+    let mut random = Random::new(156);
+    let job = generate::job(&mut random);
+    let task = under(&job, &random_bars(&mut random, &job));
     let spoil: [fn(&mut RouteTask); 6] = [
         |task| task.width = 17,
         |task| task.hall[0] = 0,

@@ -1,5 +1,6 @@
 //! Document 01, "Jobs worked by hand": "Cells all open; k is 0 and N is 128
-//! where not given", on both yardsticks; and carriers that share a start or a goal.
+//! where not given", on both yardsticks, with document 02's P2; and carriers that
+//! share a start or a goal.
 
 use bench::compare::planned;
 use bench::task::{Carrier, PlanTask, Tables, Told};
@@ -54,7 +55,24 @@ fn crossing_in_a_square() {
     assert_eq!(told(&two), counted(9, 0, 2));
     let delayed = PlanTask { k: 1, n: 3, ..two };
     assert_eq!(told(&delayed), counted(0, 6, 3));
-    assert_eq!(routes(&delayed), [3, 0, 1, 2, 5, 1, 4, 7, 7, 7]);
+    assert_eq!(routes(&delayed), [3, 3, 3, 4, 5, 1, 4, 7, 7, 7]);
+}
+
+/// "Prefer standing to wandering": a carrier that must lose steps waits.
+#[test]
+fn standing() {
+    let square = job(4, 4, &[4, 7, 1, 13], 10);
+    let square = PlanTask { k: 2, ..square };
+    assert_eq!(told(&square), counted(0, 9, 9));
+    let first = [4, 4, 4, 4, 5, 6, 7, 7, 7, 7, 7];
+    let second = [1, 5, 9, 13, 13, 13, 13, 13, 13, 13, 13];
+    assert_eq!(routes(&square), [first, second].concat());
+    let wide = job(5, 3, &[5, 9, 2, 12], 10);
+    let wide = PlanTask { k: 2, ..wide };
+    assert_eq!(told(&wide), counted(0, 8, 5));
+    let first = [5, 5, 5, 6, 7, 8, 9, 9, 9, 9, 9];
+    let second = [2, 7, 12, 12, 12, 12, 12, 12, 12, 12, 12];
+    assert_eq!(routes(&wide), [first, second].concat());
 }
 
 #[test]

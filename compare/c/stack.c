@@ -2,9 +2,10 @@
  * The stack that calls of the library use, against what adfulmise.h states: stack
  *
  * Each call is made on memory of exactly the stated size, right above a page without access: one byte more would end this program.
- * The memory is filled with one byte first, so that what was used can be told. The jobs are the shallowest there are, and the two
- * with the deepest chain and with the most stack that a search over many thousand jobs in full rooms has found. A chain of 1,023,
- * deeper than any of them, is lent to the best route alone, which is the planner's own engine (libroute_bench.a).
+ * The memory is filled with one byte first, so that what was used can be told. The jobs are the shallowest there are; one that uses
+ * up all records; the one with the deepest chain that a search over many thousand jobs in full rooms has found; and the one with the
+ * most stack that such a search had found before P2, which left its tree as deep. A chain of 1,023, deeper than any of them, is lent
+ * to the best route alone, which is the planner's own engine (libroute_bench.a).
  */
 #include "adfulmise.h"
 
@@ -37,7 +38,8 @@ static const struct job jobs[] = {
     {"refused", "", 0, 0, {{0, 0}}, 0, 0, 0, 1, 1, 0},
     {"one cell", ".", 1, 1, {{0, 0}}, 1, 0, 0, 1, 0, 1},
     {"two that cross", ".........", 3, 3, {{3, 5}, {1, 7}}, 2, 0, 4, 128, 0, 3},
-    {"a chain of 844", "......", 2, 3, {{0, 3}, {4, 1}, {1, 2}, {3, 4}, {2, 5}, {5, 0}}, 6, 1, 63, MOST, 9, MOST},
+    {"records used up, a chain of 217", "......", 2, 3, {{0, 3}, {4, 1}, {1, 2}, {3, 4}, {2, 5}, {5, 0}}, 6, 1, 63, MOST, 9, MOST},
+    {"a chain of 492", "....", 2, 2, {{0, 3}, {1, 2}, {2, 1}, {3, 0}}, 4, 1, 63, MOST, 8, 493},
     {"a chain of 126, 123 of other carriers", "...#", 2, 2, {{1, 2}, {0, 0}, {2, 1}}, 3, 0, 63, MOST, 8, 976},
 };
 
@@ -67,7 +69,7 @@ static void call_check_meetings(void) { number = adfulmise_check_meetings(JOB, L
 static void call_read(void) { number = adfulmise_read(LENT(book), 3, LENT(told)); }
 
 /* From cell 0 to cell 1 of two, for carrier 1, at the end of a chain of which only the first bar is for it: the crossing at step 0.
- * The writer comes upon that, and so marks the chain once more, below its own 16 KB. */
+ * The marks of the whole chain are made below the frame of the route engine. */
 static void call_best_route(void) {
     number = adfulmise_best_route((const uint8_t *)"..", 2, 2, 1, 0, 1, 63, LENT(columns), MOST, MOST - 1, 1, LENT(layers), output, 64);
 }

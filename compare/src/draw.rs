@@ -50,7 +50,8 @@ const WRONG_CAPACITIES: [usize; 4] = [0, MOST_RECORDS + 1, 1 << 16, usize::MAX];
 
 fn of_every_kind(random: &mut Random) -> Drawn {
     let (job, n) = match random.below(100) {
-        0..=34 => (generate::job(random), any_capacity(random)),
+        0..=22 => (generate::job(random), any_capacity(random)),
+        23..=34 => (generate::waiting(random), any_capacity(random)),
         35..=59 => near_its_need(random),
         60..=64 => {
             let n = random.pick(&[2, 8, 32, 128, 256]);
@@ -68,10 +69,10 @@ fn of_every_kind(random: &mut Random) -> Drawn {
 }
 
 fn near_its_need(random: &mut Random) -> (Job, usize) {
-    let job = if random.chance(50) {
-        generate::crowded(random)
-    } else {
-        generate::job(random)
+    let job = match random.below(3) {
+        0 => generate::crowded(random),
+        1 => generate::waiting(random),
+        _ => generate::job(random),
     };
     let n = generate::capacity_near_need(random, &job);
     (job, n)
@@ -110,6 +111,7 @@ fn rough(random: &mut Random) -> Drawn {
         0..=1 => generate::job(random),
         2..=19 => any_numbers(random),
         20..=24 => damage::sharing_job(random),
+        25..=59 => generate::small_waiting(random),
         _ => generate::small(random),
     };
     if random.chance(50) {

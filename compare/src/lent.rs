@@ -107,9 +107,9 @@ impl Tables {
     }
 
     /// "After 1 to 7", and so after 16, "no lent entry has changed. After 0, 8
-    /// and 9 the named least lengths of the first three tables are all zero and
-    /// the rest unchanged. Output changes only for 0: carrier by carrier, its
-    /// cells for steps 0 to H, the rest unchanged."
+    /// and 9 the named least lengths of the first three tables", of the layers the
+    /// one that P2 names, "are all zero and the rest unchanged. Output changes only
+    /// for 0: carrier by carrier, its cells for steps 0 to H, the rest unchanged."
     pub fn after(&self, answer: &PlanAnswer, job: &Job, n: usize) -> Vec<Piece> {
         let mut tables = self.0.clone();
         if [0, 8, 9].contains(&answer.number) {
@@ -160,6 +160,24 @@ mod tests {
         }
         assert!(short[..4].iter().all(|count| *count > 30), "{short:?}");
         assert!(first.iter().all(|count| *count > 10), "{first:?}");
+    }
+
+    /// P2: "The layers table needs twice its length."
+    #[test]
+    fn all_of_the_twofold_length_of_the_layers_becomes_zero() {
+        let job = generate::small(&mut Random::new(23));
+        let least = least_lengths(&job, 3);
+        assert_eq!(least[2], 2 * (job.horizon + 1) * job.width * job.height);
+        let mut tables = Tables::new(&mut Random::new(24), least.map(|least| least + 2));
+        tables.0.iter_mut().for_each(|table| table.bytes.fill(7));
+        let used_up = PlanAnswer {
+            number: 8,
+            ..PlanAnswer::default()
+        };
+        let layers = &tables.after(&used_up, &job, 3)[2].bytes;
+        let (named, behind) = layers.split_at(least[2]);
+        assert!(named.iter().all(|byte| *byte == 0));
+        assert_eq!(behind, [7, 7]);
     }
 
     #[test]

@@ -1,8 +1,8 @@
 //! Adfulmise for Rust: the proved planner for delayed carriers, its two plan checks and the book reader, as safe functions.
 //!
 //! Nothing here computes a plan: each function lends its slices to the static library and hands back what that tells. What the
-//! numbers mean is in `include/adfulmise.h`, and so is the stack that a call needs (`ADFULMISE_PLAN_STACK`): 20 KB and 32 bytes for
-//! each record, so 52 KB at most.
+//! numbers mean is in `include/adfulmise.h`, and so is the stack that a call needs (`ADFULMISE_PLAN_STACK`): 10 KB and 32 bytes for
+//! each record, so 42 KB at most.
 //!
 //! ```
 //! use adfulmise::{Carrier, Job, Tables, check_meetings, check_routes, plan};
@@ -172,7 +172,7 @@ impl Tables {
         Self {
             columns: vec![0; 8 * n],
             plans: vec![0; n * 512],
-            layers: vec![0; 64 * 256],
+            layers: vec![0; 2 * 64 * 256],
             output: vec![0; 512],
         }
     }
@@ -188,7 +188,8 @@ pub enum Table {
 }
 
 /// The planner with at most n records. For number 0 the plan stands at the start of `tables.output`: carrier by carrier, its cells
-/// for the steps 0 to h.
+/// for the steps 0 to h. Of the routes that the bars of the search leave a carrier, it takes one of least cost, among these one of
+/// fewest moves, and among these the first in dictionary order.
 pub fn plan(job: &Job, n: usize, tables: &mut Tables) -> Told {
     let mut told = [0; 7];
     // SAFETY: each pointer comes with the length of the slice or vector that it is taken from, and the five that are written are

@@ -1,4 +1,4 @@
-//! Document 01's jobs worked by hand, refusals, and the printed book, through the linked library.
+//! Document 01's jobs worked by hand and two for document 02's P2, refusals, and the printed book, through the linked library.
 
 use adfulmise::{
     Carrier, Fault, Job, Kind, Table, Tables, Told, body, check_meetings, check_routes, plan,
@@ -58,7 +58,26 @@ fn crossing_in_three_by_three() {
     assert_eq!(planned(&crossing, 2).0, counted(9, 0, 2));
     assert_eq!(
         planned(&Job { k: 1, ..crossing }, 3),
-        (counted(0, 6, 3), vec![3, 0, 1, 2, 5, 1, 4, 7, 7, 7])
+        (counted(0, 6, 3), vec![3, 3, 3, 4, 5, 1, 4, 7, 7, 7])
+    );
+}
+
+/// A carrier that must lose steps stands rather than wanders.
+#[test]
+fn standing() {
+    let ends = carriers(&[(4, 7), (1, 13)]);
+    let first = [4, 4, 4, 4, 5, 6, 7, 7, 7, 7, 7];
+    let second = [1, 5, 9, 13, 13, 13, 13, 13, 13, 13, 13];
+    assert_eq!(
+        planned(&job(4, 4, &ends, 2, 10), 128),
+        (counted(0, 9, 9), [first, second].concat())
+    );
+    let ends = carriers(&[(5, 9), (2, 12)]);
+    let first = [5, 5, 5, 6, 7, 8, 9, 9, 9, 9, 9];
+    let second = [2, 7, 12, 12, 12, 12, 12, 12, 12, 12, 12];
+    assert_eq!(
+        planned(&job(5, 3, &ends, 2, 10), 128),
+        (counted(0, 8, 5), [first, second].concat())
     );
 }
 
@@ -246,7 +265,7 @@ fn a_goal_that_is_anothers_start() {
 fn short_tables() {
     let ends = carriers(&[(0, 1), (1, 2)]);
     let row = job(3, 1, &ends, 0, 2);
-    let needed = [64, 48, 9, 6];
+    let needed = [64, 48, 18, 6];
     let names = [Table::Columns, Table::Plans, Table::Layers, Table::Output];
     let enough = plan(&row, 8, &mut lent(needed));
     assert_eq!(enough, counted(0, 2, 1));

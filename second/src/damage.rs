@@ -12,8 +12,9 @@ use crate::tables::Lengths;
 /// A book of any kind: in order or not, its job accepted or not.
 pub fn book(random: &mut Random) -> Vec<u8> {
     match random.below(100) {
-        0..=49 => Bodies::of(&generate::job(random)).bind(),
-        50..=61 => Bodies::of(&generate::crowded(random)).bind(),
+        0..=34 => Bodies::of(&generate::job(random)).bind(),
+        35..=51 => Bodies::of(&generate::waiting(random)).bind(),
+        52..=61 => Bodies::of(&generate::crowded(random)).bind(),
         62..=65 => Bodies::of(&generate::needing_about(random, RECORDS)).bind(),
         66..=79 => Bodies::of(&refused_job(random)).bind(),
         80..=84 => Bodies::of(&sharing_job(random)).bind(),

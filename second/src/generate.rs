@@ -36,6 +36,31 @@ pub fn crowded(random: &mut Random) -> Job {
     }
 }
 
+/// A job in which carriers lose steps, so that rule 2's ties matter: ways that
+/// cross, or an aisle in which one lets another pass and may have touched its
+/// goal before.
+pub fn waiting(random: &mut Random) -> Job {
+    loop {
+        let mut job = losing_steps(random, 6, 8);
+        let Some(longest) = longest_alone(&job) else {
+            continue;
+        };
+        let more = random.between(1, 3 + 2 * job.k);
+        job.horizon = (longest + more).min(MOST_HORIZON);
+        return job;
+    }
+}
+
+/// A job as [`waiting`] has them, small enough for brute force: 2 or 3 carriers,
+/// at most 16 cells, H at most 6, k 0 to 2.
+pub fn small_waiting(random: &mut Random) -> Job {
+    let mut job = losing_steps(random, 4, 5);
+    job.carriers.truncate(3);
+    job.k = random.below(3);
+    job.horizon = random.between(4, 6);
+    job
+}
+
 /// A job small enough for brute force: 2 or 3 carriers, at most 9 cells, H at
 /// most 5, k 0 to 2.
 pub fn small(random: &mut Random) -> Job {
@@ -85,6 +110,93 @@ pub fn needing_about(random: &mut Random, capacity: usize) -> Job {
     });
     let nearest = tried.min_by_key(|(off, _)| *off);
     nearest.expect("at least one try").1
+}
+
+/// Ways that cross in a hall with so many columns and rows at most, or an aisle of
+/// so many cells at most. The horizon is still to be set.
+fn losing_steps(random: &mut Random, most: usize, longest: usize) -> Job {
+    loop {
+        let ((width, height), hall, carriers) = if random.chance(65) {
+            crossing_ways(random, most)
+        } else {
+            aisle_with_bays(random, longest)
+        };
+        let job = Job {
+            width,
+            height,
+            hall,
+            carriers,
+            k: random.pick(&[0, 0, 1, 1, 1, 2, 2, 3, 4]),
+            horizon: 0,
+        };
+        if job.carriers.len() > 1 && job.refusal(None).is_none() {
+            return job;
+        }
+    }
+}
+
+/// Shape, hall bytes and carriers.
+type Layout = ((usize, usize), Vec<u8>, Vec<Carrier>);
+
+/// Carriers that go from edge to edge, some along a row and some along a column,
+/// both ways, often two of them head-on. Now and then an end is a closed cell.
+fn crossing_ways(random: &mut Random, most: usize) -> Layout {
+    let shape = (random.between(2, most), random.between(2, most));
+    let density = random.pick(&[0, 0, 0, 10]);
+    let hall = hall(random, shape.0 * shape.1, density);
+    let Carrier { start, goal } = way(random, shape);
+    let mut carriers = vec![Carrier { start, goal }];
+    if random.chance(35) {
+        carriers.push(Carrier {
+            start: goal,
+            goal: start,
+        });
+    }
+    for _ in 0..20 {
+        let way = way(random, shape);
+        let apart = |other: &Carrier| other.start != way.start && other.goal != way.goal;
+        if carriers.iter().all(apart) {
+            carriers.push(way);
+        }
+    }
+    carriers.truncate(random.pick(&[2, 3, 3, 4, 4, 5]));
+    (shape, hall, carriers)
+}
+
+/// From an edge straight to the one opposite.
+fn way(random: &mut Random, (width, height): (usize, usize)) -> Carrier {
+    let (row, column) = (random.below(height), random.below(width));
+    let along_row = (row * width, row * width + width - 1);
+    let along_column = (column, (height - 1) * width + column);
+    let (from, to) = random.pick(&[along_row, along_column]);
+    let (start, goal) = random.pick(&[(from, to), (to, from)]);
+    Carrier {
+        start: start as u8,
+        goal: goal as u8,
+    }
+}
+
+/// A narrow aisle with a bay here and there on both sides, along the rows or along
+/// the columns. Often one of the carriers is parked (start = goal).
+fn aisle_with_bays(random: &mut Random, longest: usize) -> Layout {
+    let length = random.between(3, longest);
+    let mut sides = [CLOSED, OPEN, CLOSED].map(|byte| vec![byte; length]);
+    for bay in 0..random.between(1, 3) {
+        sides[2 * (bay % 2)][random.below(length)] = OPEN;
+    }
+    let (shape, hall) = if random.chance(50) {
+        ((length, 3), sides.concat())
+    } else {
+        let across = (0..length).flat_map(|at| [0, 1, 2].map(|side| sides[side][at]));
+        ((3, length), across.collect())
+    };
+    let few = random.between(2, 3);
+    let mut carriers = carriers_on(random, &hall, few);
+    if random.chance(40) {
+        let parked = &mut carriers[0];
+        parked.goal = parked.start;
+    }
+    (shape, hall, carriers)
 }
 
 fn any_shape(random: &mut Random) -> (usize, usize) {
@@ -196,6 +308,8 @@ mod tests {
         for _ in 0..300 {
             assert_eq!(job(&mut random).refusal(None), None);
             assert_eq!(crowded(&mut random).refusal(None), None);
+            assert_eq!(waiting(&mut random).refusal(None), None);
+            assert_eq!(small_waiting(&mut random).refusal(None), None);
             assert_eq!(small(&mut random).refusal(None), None);
         }
     }

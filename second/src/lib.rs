@@ -1,6 +1,7 @@
 //! A second, independent program for document 01 ("a planner for delayed
-//! carriers, with exact rules") with P1 of document 02 ("Tell us which ends are
-//! shared"). It exists to disagree with the first one.
+//! carriers, with exact rules") with P1 ("Tell us which ends are shared") and P2
+//! ("Prefer standing to wandering") of document 02. It exists to disagree with the
+//! first one.
 //!
 //! | Module       | Idea of document 01                                     |
 //! |--------------|---------------------------------------------------------|
@@ -8,7 +9,7 @@
 //! | [`tables`]   | the least lengths of lent tables, and check 7           |
 //! | [`floor`]    | cells and the moves between them                        |
 //! | [`bar`]      | bars (rule 1)                                           |
-//! | [`route`]    | a carrier's route under its bars (rule 2), costs        |
+//! | [`route`]    | a carrier's route under its bars (rule 2), costs, moves |
 //! | [`meeting`]  | meetings, swaps and the choice among them (rule 5)      |
 //! | [`tree`]     | the search tree (rules 3, 4, 6, 7)                      |
 //! | [`planner`]  | checks, then the tree; the numbers given back           |

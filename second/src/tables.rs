@@ -21,12 +21,13 @@ pub struct ShortTable {
 
 /// "Lent tables, for m carriers: record columns, 16-bit, at least 8 × N; plans,
 /// bytes, at least N × m × (H + 1); layers, bytes, at least (H + 1) × width ×
-/// height; output, at least m × (H + 1) bytes." Asked only for a job and an N
-/// that pass checks 1 to 4: then no product is too great.
+/// height; output, at least m × (H + 1) bytes." P2: "The layers table needs twice
+/// its length." Asked only for a job and an N that pass checks 1 to 4: then no
+/// product is too great.
 pub fn least_lengths(job: &Job, capacity: usize) -> Lengths {
     let steps = job.horizon + 1;
     let plan = job.carriers.len() * steps;
-    let layers = steps * job.width * job.height;
+    let layers = 2 * steps * job.width * job.height;
     [8 * capacity, capacity * plan, layers, plan]
 }
 

@@ -130,11 +130,12 @@ fn numbers(job: &Job) -> [u8; 3] {
 }
 
 /// "Likewise 7 should name the first short table, in document 01's order, and
-/// the length it needed": every choice of short tables, each by one entry.
+/// the length it needed": every choice of short tables, each by one entry. "7
+/// reads the new length" of the layers (P2).
 #[test]
 fn seven_names_the_first_short_table_and_what_it_needed() {
     let job = eight();
-    let least = [8 * 3, 3 * 8 * 7, 7 * 16, 8 * 7];
+    let least = [8 * 3, 3 * 8 * 7, 2 * 7 * 16, 8 * 7];
     assert_eq!(least_lengths(&job, 3), least);
     for short in 1..16 {
         let is_short = |table: usize| short >> table & 1 == 1;

@@ -1,7 +1,7 @@
-//! "Jobs worked by hand": all of them, and the wrong turns they guard against.
-//! "Cells all open; k is 0 and N is 128 where not given".
+//! "Jobs worked by hand": all of them, as P2 has their ties, and the wrong turns
+//! they guard against. "Cells all open; k is 0 and N is 128 where not given".
 
-use second::brute::{holds, least_sum};
+use second::brute::{holds, least_sum, tree_by_words};
 use second::check::{CheckAnswer, meeting_check, route_check};
 use second::job::{Carrier, Job};
 use second::planner::{PlanAnswer, plan};
@@ -35,10 +35,16 @@ fn not_found(number: u8, records: usize) -> PlanAnswer {
     }
 }
 
-/// The job's answer; a plan must also pass both checks and every pattern of
-/// holds, and its sum must be the least by brute force.
+/// The job's answer, which the rules taken word by word must give too, if it is
+/// no refusal; a plan must also pass both checks and every pattern of holds, and
+/// its sum must be the least by brute force.
 fn answer(job: &Job, capacity: usize) -> PlanAnswer {
     let answer = plan(job, capacity);
+    if job.refusal(Some(capacity)).is_none() {
+        let told = (answer.number, answer.sum, answer.records);
+        let by_words = tree_by_words::search(job, capacity);
+        assert_eq!((told, &answer.routes), (told_of(&by_words), &by_words.3));
+    }
     if answer.number == 0 {
         let bytes = answer.plan_bytes();
         assert_eq!(route_check(job, &bytes), CheckAnswer::default());
@@ -51,6 +57,10 @@ fn answer(job: &Job, capacity: usize) -> PlanAnswer {
         assert_eq!(least_sum::least_sum(job), None);
     }
     answer
+}
+
+fn told_of(told: &tree_by_words::Told) -> (u8, usize, usize) {
+    (told.0, told.1, told.2)
 }
 
 #[test]
@@ -66,8 +76,22 @@ fn crossing_in_a_square() {
 #[test]
 fn crossing_in_a_square_with_delay() {
     let cross = job((3, 3), &[(3, 5), (1, 7)], 1, 4);
-    let plan = found(6, 3, &[&[3, 0, 1, 2, 5], &[1, 4, 7, 7, 7]]);
+    let plan = found(6, 3, &[&[3, 3, 3, 4, 5], &[1, 4, 7, 7, 7]]);
     assert_eq!(answer(&cross, 3), plan);
+}
+
+/// Beyond document 01: with k 2 one of two that cross stands still for three steps
+/// and once for two.
+#[test]
+fn crossing_in_larger_halls_with_more_delay() {
+    let square = job((4, 4), &[(4, 7), (1, 13)], 2, 10);
+    let across = [4, 4, 4, 4, 5, 6, 7, 7, 7, 7, 7];
+    let down = [1, 5, 9, 13, 13, 13, 13, 13, 13, 13, 13];
+    assert_eq!(answer(&square, 128), found(9, 9, &[&across, &down]));
+    let wide = job((5, 3), &[(5, 9), (2, 12)], 2, 10);
+    let across = [5, 5, 5, 6, 7, 8, 9, 9, 9, 9, 9];
+    let down = [2, 7, 12, 12, 12, 12, 12, 12, 12, 12, 12];
+    assert_eq!(answer(&wide, 128), found(8, 5, &[&across, &down]));
 }
 
 #[test]

@@ -8,8 +8,12 @@ pub const CLOSED: u8 = 35;
 /// "1 to 16 columns (width) by 1 to 16 rows (height)".
 pub const MOST_CELLS: usize = 256;
 
-/// The moves by rising cell number: up, left, stay, right, down.
-pub const MOVE_COUNT: usize = 5;
+/// The moves by rising cell number.
+pub const UP: usize = 0;
+pub const LEFT: usize = 1;
+pub const STAY: usize = 2;
+pub const RIGHT: usize = 3;
+pub const DOWN: usize = 4;
 
 /// A hall of right size and bytes, with a mask for each thing that is asked of
 /// a cell: 255 for yes, 0 for no.
@@ -52,15 +56,31 @@ impl Floor {
         &self.last_column[..self.size]
     }
 
-    /// The cell that a move leads to, if it doesn't leave the grid.
-    pub fn landing(&self, from: usize, number: usize) -> Option<usize> {
-        match number {
-            0 => from.checked_sub(self.width),
-            1 => (self.first_column[from] == 0).then(|| from - 1),
-            2 => Some(from),
-            3 => (self.last_column[from] == 0).then(|| from + 1),
-            _ => Some(from + self.width).filter(|&to| to < self.size),
-        }
+    /// The number of each move that isn't shut and doesn't leave the grid, and the
+    /// cell it leads to, by rising cell number.
+    #[inline]
+    pub fn landings(&self, from: usize, shut: u8) -> impl Iterator<Item = (usize, usize)> {
+        let sides = self.first_column[from] & 1 << LEFT | self.last_column[from] & 1 << RIGHT;
+        let shut = shut | sides;
+        let to = [
+            from.wrapping_sub(self.width),
+            from.wrapping_sub(1),
+            from,
+            from + 1,
+            from + self.width,
+        ];
+        let open = move |(number, to): &(usize, usize)| shut >> number & 1 == 0 && *to < self.size;
+        to.into_iter().enumerate().filter(open)
+    }
+
+    /// A digit for each move that leads from one cell to another by number. One
+    /// that leaves the grid sideways leads nowhere anyway.
+    pub fn digits(&self, from: usize, to: usize) -> u8 {
+        u8::from(to + self.width == from) << UP
+            | u8::from(to + 1 == from) << LEFT
+            | u8::from(to == from) << STAY
+            | u8::from(to == from + 1) << RIGHT
+            | u8::from(to == from + self.width) << DOWN
     }
 }
 

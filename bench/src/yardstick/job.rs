@@ -43,7 +43,12 @@ pub fn right_sides(width: usize, height: usize) -> bool {
 }
 
 pub fn right_hall(hall: &[u8], width: usize, height: usize) -> bool {
-    hall.len() == width * height && hall.iter().all(|&byte| byte == OPEN || byte == CLOSED)
+    let right_byte = |byte: u8| byte == OPEN || byte == CLOSED;
+    // All bytes are looked at: without a way out the loop is vectorised.
+    hall.len() == width * height
+        && hall
+            .iter()
+            .fold(true, |right, &byte| right & right_byte(byte))
 }
 
 fn right_limits(task: &PlanTask) -> bool {

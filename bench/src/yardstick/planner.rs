@@ -5,7 +5,7 @@ use std::collections::BinaryHeap;
 use std::iter;
 
 use super::clash::{self, Clash, Kind};
-use super::fill::{FillLayer, NONE};
+use super::fill::{Fill, NONE};
 use super::floor::Floor;
 use super::records::{self, Bar};
 use super::route::Router;
@@ -39,8 +39,8 @@ impl Outcome {
 }
 
 /// Plans a job that passed the checks and leaves the tables as document 01 says.
-pub fn plan(task: &PlanTask, fill_layer: FillLayer, tables: &mut Tables) -> Told {
-    let outcome = search(task, fill_layer, tables);
+pub fn plan<F: Fill>(task: &PlanTask, tables: &mut Tables) -> Told {
+    let outcome = search::<F>(task, tables);
     if let Outcome::Plan { node, .. } = outcome {
         let size = task.stretch_len();
         tables.output[..size].copy_from_slice(&tables.plans[node * size..][..size]);
@@ -57,12 +57,12 @@ pub fn plan(task: &PlanTask, fill_layer: FillLayer, tables: &mut Tables) -> Told
 }
 
 /// Grows the tree of a job that passed the checks.
-pub fn search(task: &PlanTask, fill_layer: FillLayer, tables: &mut Tables) -> Outcome {
+pub fn search<F: Fill>(task: &PlanTask, tables: &mut Tables) -> Outcome {
     let floor = Floor::new(&task.hall, task.width);
     Search {
         task,
         tables,
-        router: Router::new(floor, task.h, fill_layer),
+        router: Router::<F>::new(floor, task.h),
         open: BinaryHeap::new(),
         made: 0,
     }
@@ -72,16 +72,16 @@ pub fn search(task: &PlanTask, fill_layer: FillLayer, tables: &mut Tables) -> Ou
 /// "a record is due and N are in use".
 struct NoRecordLeft;
 
-struct Search<'a> {
+struct Search<'a, F> {
     task: &'a PlanTask,
     tables: &'a mut Tables,
-    router: Router,
+    router: Router<F>,
     /// Sum and number of each open node.
     open: BinaryHeap<Reverse<(usize, usize)>>,
     made: usize,
 }
 
-impl Search<'_> {
+impl<F: Fill> Search<'_, F> {
     fn run(mut self) -> Outcome {
         self.plant();
         while let Some(Reverse((sum, node))) = self.open.pop() {
@@ -108,7 +108,7 @@ impl Search<'_> {
             if cost == NONE {
                 return;
             }
-            self.write(carrier, 0);
+            self.write(carrier, cost, 0);
             sum += usize::from(cost);
         }
         records::write_root(&mut self.tables.columns, self.task.n);
@@ -127,7 +127,7 @@ impl Search<'_> {
                 return Err(NoRecordLeft);
             }
             let others = sum - self.cost(parent, carrier);
-            self.record(parent, carrier, bar);
+            self.record(parent, carrier, bar, cost);
             self.number(others + usize::from(cost));
         }
         Ok(())
@@ -167,19 +167,19 @@ impl Search<'_> {
     }
 
     /// Writes the route just sought into a node's stretch.
-    fn write(&mut self, carrier: usize, node: usize) {
-        let (start, goal) = self.ends(carrier);
+    fn write(&mut self, carrier: usize, cost: u8, node: usize) {
+        let (start, _) = self.ends(carrier);
         let place = self.stretch(node) + carrier * (self.task.h + 1);
         let route = &mut self.tables.plans[place..];
-        self.router.write(start, goal, &self.tables.layers, route);
+        self.router.write(start, cost, &self.tables.layers, route);
     }
 
     /// The next record: the parent's routes, but for that of the barred carrier.
-    fn record(&mut self, parent: usize, carrier: usize, bar: Bar) {
+    fn record(&mut self, parent: usize, carrier: usize, bar: Bar, cost: u8) {
         let (from, to) = (self.stretch(parent), self.stretch(self.made));
         let copied = from..from + self.task.stretch_len();
         self.tables.plans.copy_within(copied, to);
-        self.write(carrier, self.made);
+        self.write(carrier, cost, self.made);
         let columns = &mut self.tables.columns;
         records::write_record(columns, self.task.n, self.made, parent, carrier, bar);
     }

@@ -85,6 +85,7 @@ pub fn chain_falls(columns: &[u16], capacity: usize, node: usize) -> bool {
         .all(|node| usize::from(columns[PARENT * capacity + node]) < node)
 }
 
+#[inline]
 fn bar_at(columns: &[u16], capacity: usize, node: usize) -> Option<Bar> {
     let [one, two, three] = NUMBERS.map(|column| usize::from(columns[column * capacity + node]));
     match columns[KIND * capacity + node] {

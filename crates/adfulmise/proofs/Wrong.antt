@@ -36,7 +36,7 @@ five = replicate 5 0
 abbrev six : List ℕ
 six = replicate 6 0
 
--- ---- adfulmise_plan: width 4, height 2, 6→2 and 0→3, k 0, H 3, N 128: sum 6, and four records
+-- ---- adfulmise_plan: width 4, height 2, 6→2 and 0→3, k 0, H 3, N 128: sum 6, and two records
 
 abbrev lentLast : Job
 lentLast = jobOf 4 2 (replicate 8 46) (recordsTeam (record { start = 6; goal = 2 } ∷ record { start = 0; goal = 3 } ∷ [])) 0 3
@@ -45,7 +45,7 @@ lent-last : lentLast ≡ starJob lastJob
 unfolding lastJob
 lent-last = job-padded 4 2 (replicate 8 46) (6 ∷ 0 ∷ []) (2 ∷ 3 ∷ []) 6 2 0 3
 
-last-told : (r : ℕ) (after : Tables) (given : List ℕ) → Answered lentLast 128 (starTables lastJob) seven r after given → given ≡ 0 ∷ 6 ∷ 4 ∷ 0 ∷ 0 ∷ 0 ∷ 0 ∷ []
+last-told : (r : ℕ) (after : Tables) (given : List ℕ) → Answered lentLast 128 (starTables lastJob) seven r after given → given ≡ 0 ∷ 6 ∷ 2 ∷ 0 ∷ 0 ∷ 0 ∷ 0 ∷ []
 unfolding written lastJob
 last-told r after given a =
     subst (λ (job : Job). Answered job 128 (starTables lastJob) seven r after given) lent-last a .told
@@ -56,11 +56,11 @@ pub compared-to-the-shorter : (r : ℕ) (after : Tables) → Answered lentLast 1
 compared-to-the-shorter r after a = let z : _≡_ {A = ℕ} 4 6 = ap (λ (l : List ℕ). getD l 1 0) (last-told r after (0 ∷ 4 ∷ 1 ∷ 0 ∷ 0 ∷ 0 ∷ 0 ∷ []) a) in omega arith
 
 -- sum and records told in each other's place
-pub sum-and-records-exchanged : (r : ℕ) (after : Tables) → Answered lentLast 128 (starTables lastJob) seven r after (0 ∷ 4 ∷ 6 ∷ 0 ∷ 0 ∷ 0 ∷ 0 ∷ []) → ⊥
-sum-and-records-exchanged r after a = let z : _≡_ {A = ℕ} 6 4 = ap (λ (l : List ℕ). getD l 2 0) (last-told r after (0 ∷ 4 ∷ 6 ∷ 0 ∷ 0 ∷ 0 ∷ 0 ∷ []) a) in omega arith
+pub sum-and-records-exchanged : (r : ℕ) (after : Tables) → Answered lentLast 128 (starTables lastJob) seven r after (0 ∷ 2 ∷ 6 ∷ 0 ∷ 0 ∷ 0 ∷ 0 ∷ []) → ⊥
+sum-and-records-exchanged r after a = let z : _≡_ {A = ℕ} 6 2 = ap (λ (l : List ℕ). getD l 2 0) (last-told r after (0 ∷ 2 ∷ 6 ∷ 0 ∷ 0 ∷ 0 ∷ 0 ∷ []) a) in omega arith
 
 -- five entries written, where there is no room for all
-pub five-entries-written : (r : ℕ) (after : Tables) → Answered lentLast 128 (starTables lastJob) five r after (0 ∷ 6 ∷ 4 ∷ 0 ∷ 0 ∷ []) → ⊥
+pub five-entries-written : (r : ℕ) (after : Tables) → Answered lentLast 128 (starTables lastJob) five r after (0 ∷ 6 ∷ 2 ∷ 0 ∷ 0 ∷ []) → ⊥
 unfolding written
 five-entries-written r after a = let z : _≡_ {A = ℕ} 6 0 = ap (λ (l : List ℕ). getD l 1 0) (a .told) in omega arith
 

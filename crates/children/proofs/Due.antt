@@ -1,5 +1,6 @@
--- A child that is due, call by call of the code: its parent's stretch lies below its own, which lies inside the plans; each write keeps
--- their length; and what stands in the tables at the end is the child made. Assumes nothing.
+-- A child that is due, call by call of the code: its parent's stretch lies below its own, which lies inside the plans, and each write keeps
+-- their length. The route that was read is the best one, so what stands in the tables at the end is the child that the tree makes. Assumes
+-- nothing.
 use Prim.Native.Nat.{ℕ, _+_, _*_, _≤_, _<_}
 use native.Mathlib.Omega.{arith}
 use mathlib.Core.Path.{_≡_, refl, sym, ap, _∙_}
@@ -9,13 +10,12 @@ use mathlib.Core.Option.{some}
 use lib.ListN.{length, take, drop}
 use lib.Seq.{paste}
 use Rattle.lent.proofs.Keeping.{same-from}
-use Rattle.job.specs.Job.{Job, planLength}
+use Rattle.job.specs.Job.{Job}
 use Rattle.routes.specs.Bars.{Barred}
 use Rattle.routes.specs.declared.Bar.{Bar}
 use Rattle.records.specs.Columns.{isBar}
-use Rattle.marks.specs.Marks.{boundBy}
-use Rattle.tables.specs.State.{Sound}
-use Rattle.tables.specs.Tables.{plansLength}
+use Rattle.tree.specs.Tree.{nodeSum}
+use Rattle.tables.specs.State.{nodeAt, Sound}
 use Rattle.tables.specs.Post.{Room, BarFits, Fitting, Recorded}
 use Rattle.lists.proofs.Parts.{part-within}
 use Rattle.children.specs.declared.Task.{Task}
@@ -23,64 +23,32 @@ use Rattle.children.specs.declared.Grown.{Grown}
 use Rattle.children.specs.declared.Grown.the-variants.{Nothing, Made, Full}
 use Rattle.children.specs.Steps.{jobOn, Ready, Kept, ChildFact}
 use Rattle.children.specs.Written.{routeOn, putRoute, sumIn, copiedPlans, ChildWritten, ChildTables}
-use Rattle.children.specs.Children.{RouteSought, ChildDue, ChildMade}
-use Rattle.children.proofs.Keeping.{stretch-within, put-kept, recorded-kept, ready-still}
+use Rattle.children.specs.Children.{RouteSought, routeRead, RoutePut, ChildDue, ChildMade}
+use Rattle.children.proofs.Keeping.{stretch-within, recorded-kept, ready-still}
 use Rattle.children.proofs.Routing.{not-found, was-found}
-use Rattle.children.proofs.Seeking.{sum-in, sum-small}
-use Rattle.children.proofs.Grows.{copied-keeps, now-keeps, grown, not-grown, no-record}
+use Rattle.children.proofs.Seeking.{readable, route-read, sum-in, sum-small}
+use Rattle.children.proofs.Grows.{now-keeps, grown, not-grown, no-record}
 
 -- ---- the child takes its record
 
-module _ (task : Task) (bytes layers columns plans : List ℕ) (node carrier : ℕ) (bar : Bar) (made : ℕ) (due : ChildDue task bytes layers columns plans node carrier bar made) where
-  abbrev job : Job
-  job = jobOn task bytes
+module _ (task : Task) (layers columns plans : List ℕ) (node carrier : ℕ) (bar : Bar) (made : ℕ) (due : ChildDue task layers columns plans node carrier bar made) (size : ℕ) (long : size ≡ task .team .count * (task .horizon + 1)) where
+  pub copy-place : (node * size + size ≤ made * size) × (made * size + size ≤ length plans)
+  copy-place = (part-within node made size (due .low), rw long (due .plans-long))
 
-  below : node * planLength job + planLength job ≤ made * planLength job
-  below = part-within node made (planLength job) (due .low)
+  module _ (copied : List ℕ) (copy : copied ≡ paste plans (made * size) (take size (drop (node * size) plans)) size) (now : List ℕ) (put : RoutePut task layers made carrier copied now) (sum : ℕ) (total : sum ≡ sumIn task now made) where
+    pub record-due : Room (task .capacity) columns made × Fitting node carrier bar sum
+    record-due =
+        let small = due .room .small in
+        let s = sum-small task now made sum (due .readable .few) (due .readable .layered .late) total in
+        (due .room, record { parent-fits = omega (arith, due .low, due .room .inside); carrier-fits = omega (arith, due .readable .inside, due .readable .few); bar-fits = due .fits; sum-fits = omega arith })
 
-  inside : made * planLength job + planLength job ≤ length plans
-  inside = omega (arith, stretch-within job (task .capacity) made (due .room), due .sound .plans-long)
-
-  module _ (size : ℕ) (long : size ≡ task .team .count * (task .horizon + 1)) where
-    pub copy-place : (node * size + size ≤ made * size) × (made * size + size ≤ length plans)
-    copy-place = rw long (below, inside)
-
-    module _ (copied : List ℕ) (copy : copied ≡ paste plans (made * size) (take size (drop (node * size) plans)) size) where
-      copied-is : copied ≡ copiedPlans job plans node made
-      copied-is = rw long at copy
-
-      pub copied-room : plansLength job (task .capacity) ≤ length copied
-      copied-room =
-          let (r, best) = was-found (routeOn task bytes columns node carrier bar) (due .found) in
-          let kept = copied-keeps job (task .capacity) columns plans node carrier bar made (due .sound) (due .low) (due .room) (due .inside) (due .bars) r best in
-          omega (arith, ap length copied-is, kept .long, due .sound .plans-long)
-
-      module _ (now : List ℕ) (put : now ≡ putRoute job copied made carrier (routeOn task bytes columns node carrier bar)) where
-        pub put-room : made * (task .team .count * (task .horizon + 1)) + task .team .count * (task .horizon + 1) ≤ length now
-        put-room =
-            let kept = put-kept job (task .capacity) made carrier (due .room) (due .inside) copied copied-room (boundBy (task .capacity) columns node carrier bar) (routeOn task bytes columns node carrier bar) refl in
-            omega (arith, ap length put, kept .long, copied-room, stretch-within job (task .capacity) made (due .room))
-
-        module _ (sum : ℕ) (total : sum ≡ sumIn task now made) where
-          pub record-due : Room (task .capacity) columns made × Fitting node carrier bar sum
-          record-due =
-              let few = due .ready .count-most in
-              let small = due .ready .capacity-most in
-              let s = sum-small task now made sum few (due .ready .horizon-most) total in
-              (record { inside = due .room; small = small; long = due .sound .columns-long }, record { parent-fits = omega (arith, due .low, due .room); carrier-fits = omega (arith, due .inside); bar-fits = due .fits; sum-fits = omega arith })
-
-          pub child-made : (after : List ℕ) → Recorded (task .capacity) columns made node carrier bar sum after → ChildMade task bytes node (record { carrier = carrier; bar = bar }) made columns plans after now
-          unfolding ChildWritten
-          child-made after recorded =
-              let (r, best) = was-found (routeOn task bytes columns node carrier bar) (due .found) in
-              let is : now ≡ putRoute job (copiedPlans job plans node made) made carrier (some r) = put ∙ ap (λ (l : List ℕ). putRoute job l made carrier (routeOn task bytes columns node carrier bar)) copied-is ∙ ap (putRoute job (copiedPlans job plans node made) made carrier) best in
-              let sums = total ∙ sum-in task bytes (task .capacity) after now made in
-              record {
-                columns-kept = recorded-kept (task .capacity) columns made node carrier bar sum after recorded;
-                plans-kept = rw is (now-keeps job (task .capacity) columns plans node carrier bar made (due .sound) (due .low) (due .room) (due .inside) (due .bars) r best);
-                grown = rw is (grown job (task .capacity) columns plans node carrier bar made (due .sound) (due .low) (due .room) (due .inside) (due .bars) r best sum after recorded (rw is at sums));
-                written = (put ∙ ap (λ (l : List ℕ). putRoute job l made carrier (routeOn task bytes columns node carrier bar)) copied-is, rw total at recorded);
-              }
+    pub child-made : (after : List ℕ) → Recorded (task .capacity) columns made node carrier bar sum after → ChildMade task layers node (record { carrier = carrier; bar = bar }) made columns plans after now
+    child-made after recorded =
+        let copied-is = rw long at copy in
+        record {
+          put = λ bytes. put bytes ∙ ap (λ (l : List ℕ). putRoute (jobOn task bytes) l made carrier (some (routeRead task carrier layers))) copied-is;
+          recorded = rw total at recorded;
+        }
 
 -- ---- no child, no record, or a child that is due
 
@@ -112,22 +80,43 @@ module _ (task : Task) (bytes columns plans layers layers' : List ℕ) (node car
         (no-record (jobOn task bytes) (task .capacity) columns plans node carrier bar made columns plans r best f, record { sought = sought .sought; written = (refl, refl) }),
       )
 
-  pub child-done : (made : ℕ) (columns' plans' : List ℕ) → ChildMade task bytes node b made columns plans columns' plans' → Grew made columns' plans' Made
-  child-done made columns' plans' child = (
-    record { columns-kept = child .columns-kept; plans-kept = child .plans-kept; layers-kept = sought .layers-kept },
-    (child .grown, record { sought = sought .sought; written = child .written }),
-  )
+  module _ (made : ℕ) (ready : Ready task bytes layers) (sound : Sound (jobOn task bytes) (task .capacity) columns plans made) (low : node < made) (inside : carrier < task .team .count) (fits : BarFits bar) (bars : isBar bar ≡ true) (e : found ≡ true) (room : made ≡ task .capacity → ⊥) where
+    abbrev job : Job
+    job = jobOn task bytes
 
-  pub child-due : (made : ℕ) → Ready task bytes layers → Sound (jobOn task bytes) (task .capacity) columns plans made → node < made → carrier < task .team .count → BarFits bar → isBar bar ≡ true → found ≡ true → (made ≡ task .capacity → ⊥) → ChildDue task bytes layers' columns plans node carrier bar made
-  child-due made ready sound low inside fits bars e room =
-      record {
-        ready = ready-still task bytes layers layers' (sought .layers-kept .long) ready;
-        sound = sound;
-        low = low;
-        room = omega (arith, sound .made, room);
-        inside = inside;
-        fits = fits;
-        bars = bars;
-        sought = sought .sought;
-        found = sym e ∙ sought .told;
-      }
+    free : made < task .capacity
+    free = omega (arith, sound .made, room)
+
+    ready' : Ready task bytes layers'
+    ready' = ready-still task bytes layers layers' (sought .layers-kept .long) ready
+
+    pub child-due : ChildDue task layers' columns plans node carrier bar made
+    child-due =
+        record {
+          readable = readable task bytes layers' carrier ready' inside;
+          low = low;
+          room = record { inside = free; small = ready .capacity-most; long = sound .columns-long };
+          fits = fits;
+          plans-long = omega (arith, stretch-within job (task .capacity) made free, sound .plans-long);
+        }
+
+    pub child-done : (columns' plans' : List ℕ) → ChildMade task layers' node b made columns plans columns' plans' → Grew made columns' plans' Made
+    unfolding ChildWritten
+    child-done columns' plans' child =
+        let (r, best) = was-found (routeOn task bytes columns node carrier bar) (sym e ∙ sought .told) in
+        let read = route-read task bytes columns node carrier bar layers' r ready' inside (sought .sought) best in
+        let is : plans' ≡ putRoute job (copiedPlans job plans node made) made carrier (some r) = child .put bytes ∙ ap (λ (q : List ℕ). putRoute job (copiedPlans job plans node made) made carrier (some q)) read in
+        let sums = sum-in task bytes (task .capacity) columns' plans' made ∙ ap (λ (l : List ℕ). nodeSum job (nodeAt job (task .capacity) columns' l made)) is in (
+          record {
+            columns-kept = recorded-kept (task .capacity) columns made node carrier bar (sumIn task plans' made) columns' (child .recorded);
+            plans-kept = rw is (now-keeps job (task .capacity) columns plans node carrier bar made sound low free inside bars r best);
+            layers-kept = sought .layers-kept;
+          },
+          (
+            rw is (grown job (task .capacity) columns plans node carrier bar made sound low free inside bars r best (sumIn task plans' made) columns' (child .recorded) sums),
+            record {
+              sought = sought .sought;
+              written = (is ∙ ap (putRoute job (copiedPlans job plans node made) made carrier) (sym best), child .recorded);
+            },
+          ),
+        )

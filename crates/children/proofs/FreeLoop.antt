@@ -22,11 +22,12 @@ use Rattle.tables.specs.State.{routesIn, stretchAt}
 use Rattle.tables.specs.Tables.{plansLength, layersLength}
 use Rattle.tables.proofs.Costs.{route-in}
 use Rattle.children.specs.declared.Task.{Task}
-use Rattle.children.specs.Steps.{jobOn}
+use Rattle.children.specs.Steps.{jobOn, Ready}
 use Rattle.children.specs.Written.{routeOn, SoughtFree, isFound, putRoute, rootPlans, freeCount, lastSought}
-use Rattle.children.specs.Children.{RouteSought, FreeRoute, FreeFact, FreeRoutes}
+use Rattle.children.specs.Children.{RouteSought, RoutePut, FreeRoute, FreeFact, FreeRoutes}
 use Rattle.children.proofs.Routing.{root-unbarred, free-route, not-found, was-found}
 use Rattle.children.proofs.Keeping.{stretch-within, put-kept}
+use Rattle.children.proofs.Seeking.{route-read}
 use Rattle.children.proofs.FreeRoutes.{free-all, free-lacks, free-count-all, free-count-lacks, free-more}
 
 -- ---- the route of one carrier
@@ -38,7 +39,7 @@ module _ (task : Task) (bytes columns plans layers layers' : List ℕ) (i : ℕ)
   -- 'no bar' marks nothing
   free-sought : SoughtFree task bytes i layers'
   unfolding boundBy barsFor
-  free-sought = free-filled (jobOn task bytes .hall) [] (getD (task .team .goals) i 0) (task .horizon) layers' (rw (root-unbarred (task .capacity) columns unbarred) at (sought .sought))
+  free-sought = free-filled (jobOn task bytes .hall) [] (getD (task .team .starts) i 0) (getD (task .team .goals) i 0) (task .horizon) layers' (rw (root-unbarred (task .capacity) columns unbarred) at (sought .sought))
 
   pub none-free : found ≡ false → FreeRoute task bytes i plans layers plans layers' false
   unfolding putRoute
@@ -51,18 +52,20 @@ module _ (task : Task) (bytes columns plans layers layers' : List ℕ) (i : ℕ)
         layers-kept = sought .layers-kept;
       }
 
-  pub one-free : (plans' : List ℕ) → found ≡ true → plans' ≡ putRoute (jobOn task bytes) plans 0 i (routeOn task bytes columns 0 i Free) → FreeRoute task bytes i plans layers plans' layers' true
-  one-free plans' e put =
+  pub one-free : (plans' : List ℕ) → Ready task bytes layers' → i < task .team .count → found ≡ true → RoutePut task layers' 0 i plans plans' → FreeRoute task bytes i plans layers plans' layers' true
+  one-free plans' ready inside e put =
+      let (r, best) = was-found (routeOn task bytes columns 0 i Free) (sym e ∙ sought .told) in
+      let read = route-read task bytes columns 0 i Free layers' r ready inside (sought .sought) best in
       record {
         told = sym e ∙ sought .told ∙ ap isFound (sym same-route);
-        put = put ∙ ap (putRoute (jobOn task bytes) plans 0 i) (sym same-route);
+        put = put bytes ∙ ap (putRoute (jobOn task bytes) plans 0 i) (ap some read ∙ sym best ∙ sym same-route);
         sought = free-sought;
         layers-kept = sought .layers-kept;
       }
 
 -- ---- the loop over the carriers
 
--- the first i carriers have a route without bars, and it is written; the layers hold the levels of the last of them
+-- the first i carriers have a route without bars, and it is written; the layers are those of the last of them
 pub record FreeSoFar (task : Task) (bytes plans layers plans' layers' : List ℕ) (i : ℕ) : Type 0 where
   pub written : (j : ℕ) → j < i → routeUnder (jobOn task bytes) [] j ≡ some (routeOf (routesIn (jobOn task bytes) (stretchAt (jobOn task bytes) plans' 0)) j)
   pub put : plans' ≡ rootPlans (jobOn task bytes) plans i

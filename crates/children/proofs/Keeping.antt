@@ -60,6 +60,10 @@ written-kept n xs a ys k long inside room =
 pub stretch-within : (job : Job) (capacity x : ℕ) → x < capacity → x * planLength job + planLength job ≤ capacity * planLength job
 stretch-within job capacity x l = part-within x capacity (planLength job) l
 
+-- the root's is inside
+pub first-within : (capacity stretch : ℕ) (plans : List ℕ) → 1 ≤ capacity → capacity * stretch ≤ length plans → 0 * stretch + stretch ≤ length plans
+first-within capacity stretch plans one room = omega (arith, part-within 0 capacity stretch one)
+
 pub route-within : (job : Job) (capacity x i : ℕ) → x < capacity → i < job .count → x * planLength job + i * (job .horizon + 1) + (job .horizon + 1) ≤ capacity * planLength job
 route-within job capacity x i l k = omega (arith, stretch-within job capacity x l, part-within i (job .count) (job .horizon + 1) k)
 
@@ -93,12 +97,10 @@ ready-still task bytes layers layers' e ready =
       capacity-least = ready .capacity-least;
       capacity-most = ready .capacity-most;
       starts-inside = ready .starts-inside;
+      goals-inside = ready .goals-inside;
       layers-long = omega (arith, ready .layers-long);
     }
 
 pub sound-falls : (job : Job) (capacity : ℕ) (columns plans : List ℕ) (made x : ℕ) → Sound job capacity columns plans made → x < made → Falls capacity columns x
 sound-falls job capacity columns plans made x sound l =
     record { room = sound .columns-long; small = sound .small; inside = omega (arith, sound .made); down = λ y k h. sound .down y k (omega arith) }
-
-pub root-falls : (capacity : ℕ) (columns : List ℕ) → 1 ≤ capacity → capacity ≤ 1024 → 8 * capacity ≤ length columns → Falls capacity columns 0
-root-falls capacity columns one small room = record { room = room; small = small; inside = one; down = λ y k h. absurd (omega arith) }

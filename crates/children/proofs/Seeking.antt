@@ -1,26 +1,34 @@
--- A route sought, and written into its part of the plans, in the numbers of the code: a carrier's part starts where the node's stretch
+-- A route sought, and read into its part of the plans, in the numbers of the code: a carrier's part starts where the node's stretch
 -- does, and as many parts further on as carriers come before. Assumes nothing.
 use Prim.Native.Nat.{ℕ, _+_, _-_, _*_, _≤_, _<_}
 use native.Mathlib.Omega.{arith}
-use mathlib.Core.Path.{_≡_, refl, sym, ap, _∙_}
+use mathlib.Core.Path.{_≡_, refl, sym, subst, _∙_}
 use mathlib.Core.Bool.{true, false}
 use mathlib.Core.List.{List, _++_}
 use mathlib.Core.Option.{Option, none, some}
-use lib.ListN.{length, getD, take, drop, length-take, length-drop, take-append-drop}
+use lib.ListN.{length, getD, take, drop, length-take, length-drop}
 use Rattle.lists.specs.Lists.{sumTo}
+use Rattle.lists.proofs.Parts.{part-within}
 use Rattle.lent.specs.Lent.{SameFrom}
-use Rattle.job.specs.Job.{planLength}
+use Rattle.hall.specs.Hall.{size}
+use Rattle.hall.specs.declared.Grid.{Grid}
+use Rattle.job.specs.Job.{Job}
 use Rattle.job.proofs.Accepted.{plan-small}
 use Rattle.routes.specs.Route.{cost, routeIn}
 use Rattle.routes.specs.Best.{bestRoute}
 use Rattle.routes.specs.declared.Bar.{Bar}
+use Rattle.records.specs.Columns.{Falls}
 use Rattle.marks.specs.Marks.{boundBy}
 use Rattle.marks.specs.Post.{Layered}
+use Rattle.shuts.specs.Post.{lentHall, RightGrid}
 use Rattle.layers.specs.Layers.{routeFrom, soughtOf}
+use Rattle.layers.specs.Post.{SoughtRoute}
 use Rattle.layers.specs.declared.Sought.{Sought}
 use Rattle.layers.specs.declared.Sought.the-variants.{Nothing, Cost}
-use Rattle.writer.specs.Post.{writtenRoute}
-use Rattle.tables.specs.Tables.{plansLength, layersLength}
+use Rattle.layers.specs.declared.Trip.{Trip}
+use Rattle.writer.specs.Write.{readRoute}
+use Rattle.writer.proofs.ReadLaws.{read-is-best}
+use Rattle.tables.specs.Tables.{layersLength}
 use Rattle.tree.specs.Tree.{nodeSum}
 use Rattle.tables.specs.State.{stretchAt, nodeAt}
 use Rattle.tables.proofs.Costs.{costs-at-most}
@@ -28,19 +36,34 @@ use Rattle.tables.proofs.Live.{node-sum}
 use Rattle.children.specs.declared.Task.{Task}
 use Rattle.children.specs.Steps.{jobOn, Ready}
 use Rattle.children.specs.Written.{routeOn, SoughtIn, isFound, putRoute, sumIn}
-use Rattle.children.specs.Children.{RouteSought}
-use Rattle.children.proofs.Keeping.{route-within}
+use Rattle.children.specs.Children.{RouteSought, Readable, routeRead, RoutePut}
+
+-- ---- what is asked
+
+-- 'twice its length': the two planes that the layers' functions name
+pub two-planes : (job : Job) → (job .horizon + 1) * size (job .hall) + (job .horizon + 1) * size (job .hall) ≡ layersLength job
+two-planes job = omega arith
 
 -- what every use of the layers asks
-pub layered : (task : Task) (bytes layers : List ℕ) → Ready task bytes layers → Layered (task .width) (task .height) (task .horizon) layers
+layered : (task : Task) (bytes layers : List ℕ) → Ready task bytes layers → Layered (task .width) (task .height) (task .horizon) layers
 layered task bytes layers ready =
-    record { some = ready .width-least; wide = ready .width-most; high = ready .height-most; late = ready .horizon-most; room = ready .layers-long }
+    record {
+      some = ready .width-least;
+      wide = ready .width-most;
+      high = ready .height-most;
+      late = ready .horizon-most;
+      room = omega (arith, two-planes (jobOn task bytes), ready .layers-long);
+    }
+
+pub readable : (task : Task) (bytes layers : List ℕ) (carrier : ℕ) → Ready task bytes layers → carrier < task .team .count → Readable task carrier layers
+readable task bytes layers carrier ready inside =
+    record { layered = layered task bytes layers ready; started = ready .starts-inside carrier inside; inside = inside; few = ready .count-most }
 
 -- the part that the code lends, from a start to an end, has a byte for each step
-pub part-long : (task : Task) (plans : List ℕ) (a : ℕ) → a + (task .horizon + 1) ≤ length plans → length (take (a + (task .horizon + 1) - a) (drop a plans)) ≡ task .horizon + 1
+part-long : (task : Task) (plans : List ℕ) (a : ℕ) → a + (task .horizon + 1) ≤ length plans → length (take (a + (task .horizon + 1) - a) (drop a plans)) ≡ task .horizon + 1
 part-long task plans a h = simp (length-take, length-drop) (omega arith)
 
--- ---- sought
+-- ---- found or not
 
 nothing-found : (goal : ℕ) (o : Option (List ℕ)) → soughtOf goal o ≡ Nothing → false ≡ isFound o
 unfolding soughtOf isFound
@@ -52,39 +75,69 @@ unfolding soughtOf isFound
 cost-found goal none k e = let z : _≡_ {A = ℕ} 0 1 = cc in absurd (omega arith)
 cost-found goal (some r) k e = refl
 
-module _ (task : Task) (bytes columns : List ℕ) (node carrier : ℕ) (bar : Bar) where
-  -- the route as the layers' functions name it
-  abbrev sought : Option (List ℕ)
-  sought = routeFrom (jobOn task bytes .hall) (boundBy (task .capacity) columns node carrier bar) (getD (task .team .starts) carrier 0) (getD (task .team .goals) carrier 0) (task .horizon)
+-- ---- with the grid and the trip that the code makes
 
-  module _ (layers layers' : List ℕ) (s : Sought) (is : s ≡ soughtOf (getD (task .team .goals) carrier 0) sought) (filled : SoughtIn task bytes columns node carrier bar layers') (kept : SameFrom (layersLength (jobOn task bytes)) layers layers') where
-    pub none-sought : s ≡ Nothing → RouteSought task bytes columns node carrier bar layers layers' false
-    unfolding bestRoute
-    none-sought e = record { told = nothing-found (getD (task .team .goals) carrier 0) sought (sym is ∙ e); sought = filled; layers-kept = kept }
+abbrev gridOf : Task → Grid
+gridOf task = record { width = task .width; height = task .height }
 
-    pub one-sought : (k : ℕ) → s ≡ Cost k → RouteSought task bytes columns node carrier bar layers layers' true
-    unfolding bestRoute
-    one-sought k e = record { told = cost-found (getD (task .team .goals) carrier 0) sought k (sym is ∙ e); sought = filled; layers-kept = kept }
+abbrev tripOf : Task → ℕ → Trip
+tripOf task carrier = record { start = getD (task .team .starts) carrier 0; goal = getD (task .team .goals) carrier 0; horizon = task .horizon }
 
-  -- ---- written
+module _ (task : Task) (carrier : ℕ) (grid : Grid) (same-grid : grid ≡ gridOf task) (trip : Trip) (same-trip : trip ≡ tripOf task carrier) where
+  -- ---- sought
 
-  put-over : (plans : List ℕ) (into : ℕ) (o : Option (List ℕ)) → take (into * planLength (jobOn task bytes) + carrier * (task .horizon + 1)) plans ++ (writtenRoute o (take (task .horizon + 1) (drop (into * planLength (jobOn task bytes) + carrier * (task .horizon + 1)) plans)) ++ drop (task .horizon + 1) (drop (into * planLength (jobOn task bytes) + carrier * (task .horizon + 1)) plans)) ≡ putRoute (jobOn task bytes) plans into carrier o
-  unfolding writtenRoute putRoute
-  put-over plans into none =
-      let a = into * planLength (jobOn task bytes) + carrier * (task .horizon + 1) in
-      ap (λ (l : List ℕ). take a plans ++ l) (take-append-drop (task .horizon + 1) (drop a plans)) ∙ take-append-drop a plans
-  put-over plans into (some r) = refl
+  module _ (bytes columns : List ℕ) (node : ℕ) (bar : Bar) (layers : List ℕ) where
+    pub seek-due : Ready task bytes layers → Falls (task .capacity) columns node → carrier < task .team .count → (RightGrid grid bytes × Layered (grid .width) (grid .height) (trip .horizon) layers) × ((trip .start < grid .width * grid .height) × (trip .goal < grid .width * grid .height) × Falls (task .capacity) columns node)
+    seek-due ready falls inside =
+        let floor : RightGrid (gridOf task) bytes = record { some = ready .width-least; wide = ready .width-most; any = ready .height-least; high = ready .height-most; long = ready .bytes-long } in
+        rw (same-grid, same-trip) ((floor, layered task bytes layers ready), (ready .starts-inside carrier inside, ready .goals-inside carrier inside, falls))
+
+    module _ (layers' : List ℕ) (s : Sought) (answer : SoughtRoute (lentHall grid bytes) (boundBy (task .capacity) columns node carrier bar) (trip .start) (trip .goal) (trip .horizon) layers layers' s) where
+      abbrev goal : ℕ
+      goal = getD (task .team .goals) carrier 0
+
+      -- the route as the layers' functions name it
+      abbrev sought : Option (List ℕ)
+      sought = routeFrom (jobOn task bytes .hall) (boundBy (task .capacity) columns node carrier bar) (getD (task .team .starts) carrier 0) goal (task .horizon)
+
+      answered : SoughtRoute (jobOn task bytes .hall) (boundBy (task .capacity) columns node carrier bar) (getD (task .team .starts) carrier 0) goal (task .horizon) layers layers' s
+      answered = rw (same-grid, same-trip) at answer
+
+      kept : SameFrom (layersLength (jobOn task bytes)) layers layers'
+      kept = subst (λ (n : ℕ). SameFrom n layers layers') (two-planes (jobOn task bytes)) (answered .kept)
+
+      pub none-sought : s ≡ Nothing → RouteSought task bytes columns node carrier bar layers layers' false
+      unfolding bestRoute
+      none-sought e = record { told = nothing-found goal sought (sym (answered .told) ∙ e); sought = answered .filled; layers-kept = kept }
+
+      pub one-sought : (k : ℕ) → s ≡ Cost k → RouteSought task bytes columns node carrier bar layers layers' true
+      unfolding bestRoute
+      one-sought k e = record { told = cost-found goal sought k (sym (answered .told) ∙ e); sought = answered .filled; layers-kept = kept }
+
+  -- ---- read
 
   -- the stretch is as long as the code worked out
-  module _ (size : ℕ) (long : size ≡ task .team .count * (task .horizon + 1)) (into : ℕ) (plans : List ℕ) where
-    pub put-place : carrier < task .team .count → into < task .capacity → plansLength (jobOn task bytes) (task .capacity) ≤ length plans → into * size + carrier * (task .horizon + 1) + (task .horizon + 1) ≤ length plans
-    put-place inside low room = rw long (omega (arith, route-within (jobOn task bytes) (task .capacity) into carrier low inside))
+  module _ (layers : List ℕ) (reads : Readable task carrier layers) (size : ℕ) (long : size ≡ task .team .count * (task .horizon + 1)) (into : ℕ) (plans : List ℕ) (room : into * (task .team .count * (task .horizon + 1)) + task .team .count * (task .horizon + 1) ≤ length plans) where
+    abbrev from : ℕ
+    from = into * size + carrier * (task .horizon + 1)
 
-    pub route-put : (ys : List ℕ) → ys ≡ writtenRoute sought (take (into * size + carrier * (task .horizon + 1) + (task .horizon + 1) - (into * size + carrier * (task .horizon + 1))) (drop (into * size + carrier * (task .horizon + 1)) plans)) → take (into * size + carrier * (task .horizon + 1)) plans ++ (ys ++ drop (into * size + carrier * (task .horizon + 1) + (task .horizon + 1) - (into * size + carrier * (task .horizon + 1))) (drop (into * size + carrier * (task .horizon + 1)) plans)) ≡ putRoute (jobOn task bytes) plans into carrier (routeOn task bytes columns node carrier bar)
-    unfolding bestRoute
-    route-put ys e =
-        let d : into * size + carrier * (task .horizon + 1) + (task .horizon + 1) - (into * size + carrier * (task .horizon + 1)) ≡ task .horizon + 1 = omega arith in
-        rw (e, d, long) (put-over plans into sought)
+    pub put-place : from + (task .horizon + 1) ≤ length plans
+    put-place = rw long (omega (arith, part-within carrier (task .team .count) (task .horizon + 1) (reads .inside)))
+
+    pub write-due : Layered (grid .width) (grid .height) (trip .horizon) layers × (trip .start < grid .width * grid .height) × (length (take (from + (task .horizon + 1) - from) (drop from plans)) ≡ trip .horizon + 1)
+    write-due = rw (same-grid, same-trip) (reads .layered, reads .started, part-long task plans from put-place)
+
+    pub route-put : (ys : List ℕ) → ys ≡ readRoute (grid .width) (grid .height) (trip .horizon) layers (trip .start) → RoutePut task layers into carrier plans (take from plans ++ (ys ++ drop (from + (task .horizon + 1) - from) (drop from plans)))
+    unfolding putRoute
+    route-put ys e bytes =
+        let d : from + (task .horizon + 1) - from ≡ task .horizon + 1 = omega arith in
+        rw (e, same-grid, same-trip, d, long) refl
+
+-- the route that is read off layers in which one was sought and found is that one
+pub route-read : (task : Task) (bytes columns : List ℕ) (node carrier : ℕ) (bar : Bar) (layers r : List ℕ) → Ready task bytes layers → carrier < task .team .count → SoughtIn task bytes columns node carrier bar layers → routeOn task bytes columns node carrier bar ≡ some r → routeRead task carrier layers ≡ r
+unfolding bestRoute
+route-read task bytes columns node carrier bar layers r ready inside filled best =
+    read-is-best (jobOn task bytes .hall) (boundBy (task .capacity) columns node carrier bar) (getD (task .team .starts) carrier 0) (getD (task .team .goals) carrier 0) (task .horizon) layers (ready .horizon-most) filled r (ready .starts-inside carrier inside) best
 
 -- ---- the sum
 

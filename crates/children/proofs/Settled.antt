@@ -1,25 +1,33 @@
 -- Two results that the contracts of `add_child` and `make_root` allow are equal, the answer and every entry of the three lent tables: the
 -- children of the tree decide the answer, and each table is settled by what came in. Assumes nothing.
-use Prim.Native.Nat.{ℕ}
+use Prim.Native.Nat.{ℕ, _+_, _*_}
 use native.Mathlib.Omega.{arith}
-use mathlib.Core.Path.{_≡_, refl, sym, ap, _∙_}
+use mathlib.Core.Path.{_≡_, refl, sym, ap, subst, _∙_}
 use mathlib.Core.Bool.{Bool, true, false}
 use mathlib.Core.List.{List, []}
 use lib.ListN.{length}
+use Rattle.lent.specs.Lent.{SameFrom}
+use Rattle.hall.specs.Hall.{size}
+use Rattle.job.specs.Job.{Job}
 use Rattle.routes.specs.Bars.{Barred}
 use Rattle.routes.specs.declared.Bar.the-variants.{Free}
 use Rattle.layers.proofs.Settled.{filled-settled}
 use Rattle.tree.specs.Tree.{root, child}
 use Rattle.tables.specs.State.{nodeAt}
+use Rattle.tables.specs.Tables.{layersLength}
 use Rattle.tables.proofs.Settled.{write-record-settled}
 use Rattle.children.specs.declared.Task.{Task}
 use Rattle.children.specs.declared.Grown.{Grown}
 use Rattle.children.specs.declared.Grown.the-variants.{Nothing, Made, Full}
 use Rattle.children.specs.Steps.{jobOn, Kept, ChildFact, RootFact}
 use Rattle.children.specs.Written.{sumIn, ChildWritten, ChildTables, rootSum, RootTables}
+use Rattle.children.proofs.Seeking.{two-planes}
 
 not-none : {A : Type 0} (xs : List A) → xs ≡ [] → length xs ≡ 1 → ⊥
 not-none xs e f = omega (arith, f, ap length e)
+
+two-planes-kept : (job : Job) (before after : List ℕ) → SameFrom (layersLength job) before after → SameFrom ((job .horizon + 1) * size (job .hall) + (job .horizon + 1) * size (job .hall)) before after
+two-planes-kept job before after = subst (λ (n : ℕ). SameFrom n before after) (sym (two-planes job))
 
 -- ---- a child
 
@@ -54,7 +62,7 @@ module _ (task : Task) (bytes columns plans layers : List ℕ) (x : ℕ) (b : Ba
   add-child-settled g g′ c p l c′ p′ l′ a a′ =
       let answer = same-grown c p c′ p′ g g′ (a .grown) (a′ .grown) in
       let written = same-written c p c′ p′ g (a .tables .written) (rw (sym answer) at (a′ .tables .written)) in
-      (answer, written .0, written .1, filled-settled (jobOn task bytes .hall) _ _ (task .horizon) layers l l′ (a .tables .sought) (a′ .tables .sought) (a .kept .layers-kept) (a′ .kept .layers-kept))
+      (answer, written .0, written .1, filled-settled (jobOn task bytes .hall) _ _ _ (task .horizon) layers l l′ (a .tables .sought) (a′ .tables .sought) (two-planes-kept (jobOn task bytes) layers l (a .kept .layers-kept)) (two-planes-kept (jobOn task bytes) layers l′ (a′ .kept .layers-kept)))
 
 -- ---- the root
 
@@ -76,4 +84,4 @@ module _ (task : Task) (bytes columns plans layers : List ℕ) where
   make-root-settled r r′ c p l c′ p′ l′ a a′ =
       let answer = same-rooted c p c′ p′ r r′ (a .rooted) (a′ .rooted) in
       let same : p′ ≡ p = a′ .tables .routes ∙ sym (a .tables .routes) in
-      (answer, write-record-settled (task .capacity) columns 0 0 0 Free (rootSum task p r) c c′ (a .tables .written) (rw (same, sym answer) at (a′ .tables .written)), sym same, filled-settled (jobOn task bytes .hall) _ _ (task .horizon) layers l l′ (a .tables .sought) (a′ .tables .sought) (a .kept .layers-kept) (a′ .kept .layers-kept))
+      (answer, write-record-settled (task .capacity) columns 0 0 0 Free (rootSum task p r) c c′ (a .tables .written) (rw (same, sym answer) at (a′ .tables .written)), sym same, filled-settled (jobOn task bytes .hall) _ _ _ (task .horizon) layers l l′ (a .tables .sought) (a′ .tables .sought) (two-planes-kept (jobOn task bytes) layers l (a .kept .layers-kept)) (two-planes-kept (jobOn task bytes) layers l′ (a′ .kept .layers-kept)))

@@ -5,13 +5,14 @@ use native.Mathlib.Omega.{arith}
 use mathlib.Core.Path.{_≡_, refl, sym, ap, _∙_}
 use mathlib.Core.Bool.{Bool, true}
 use mathlib.Core.List.{List, [], _∷_}
+use mathlib.Core.Option.{some}
 use lib.ListN.{length, getD, take, drop}
 use Rattle.lists.specs.Lists.{range, sumTo, only, keep, anyOf, each}
 use Rattle.hall.specs.Hall.{isOpen}
 use Rattle.hall.specs.Moves.{onGrid, cellAt, landing, reachFrom, reach}
 use Rattle.routes.specs.Route.{routeIn, stepCost, cost}
 use Rattle.routes.specs.Bars.{barsFor, barsCell, barsWay, mayStand, mayTurn}
-use Rattle.routes.specs.Best.{cheaper, better, bestOf, inFront, bestWay, bestRoute}
+use Rattle.routes.specs.Best.{moved, moves, outdone, preferred, better, bestOf, inFront, bestWay, bestRoute}
 use Rattle.routes.specs.declared.Bar.the-variants.{Stay}
 use Rattle.records.specs.Columns.{sumAt, barFrom, barAt, isBar, ownBars, chains, chainOf}
 use Rattle.marks.specs.Marks.{boundBy}
@@ -70,7 +71,7 @@ sum-at-last-carrier-left-out r e wrong = omega (arith, e ∙ root-sum, wrong)
 
 -- with H 0 no carrier reaches its goal
 no-root : root (jobOn (exchange 0) row) ≡ []
-unfolding range only keep anyOf each isOpen onGrid cellAt landing reachFrom reach barsFor barsCell barsWay mayStand mayTurn cheaper better bestOf inFront bestWay bestRoute routeUnder withRoute freeRoutes rootOf root
+unfolding range only keep anyOf each isOpen onGrid cellAt landing reachFrom reach barsFor barsCell barsWay mayStand mayTurn moved moves outdone preferred better bestOf inFront bestWay bestRoute routeUnder withRoute freeRoutes rootOf root
 no-root = refl
 
 pub make-root-without-routes : (columns' plans' : List ℕ) → RootFact (jobOn (exchange 0) row) 2 columns' plans' true → ⊥
@@ -82,7 +83,7 @@ abbrev pub sevens : List ℕ
 sevens = 7 ∷ 7 ∷ 7 ∷ 7 ∷ 7 ∷ 7 ∷ 7 ∷ 7 ∷ []
 
 root-routes : rootPlans (jobOn (exchange 1) row) sevens (freeCount (jobOn (exchange 1) row)) ≡ 0 ∷ 1 ∷ 1 ∷ 0 ∷ 7 ∷ 7 ∷ 7 ∷ 7 ∷ []
-unfolding range only keep anyOf each isOpen onGrid cellAt landing reachFrom reach stepCost cost barsFor barsCell barsWay mayStand mayTurn cheaper better bestOf inFront bestWay bestRoute routeUnder putRoute rootPlans oneMore freeFrom
+unfolding range only keep anyOf each isOpen onGrid cellAt landing reachFrom reach stepCost cost barsFor barsCell barsWay mayStand mayTurn moved moves outdone preferred better bestOf inFront bestWay bestRoute routeUnder putRoute rootPlans oneMore freeFrom
 root-routes = refl
 
 pub make-root-plans-untouched : (columns columns' plans' layers' : List ℕ) (made : Bool) → RootTables (exchange 1) row columns sevens columns' plans' layers' made → plans' ≡ sevens → ⊥
@@ -130,7 +131,7 @@ abbrev pub childOfTwo : List ℕ
 childOfTwo = putRoute (jobOn turning square) (copiedPlans (jobOn turning square) grownPlans 2 3) 3 0 (routeOn turning square grownColumns 2 0 (Stay 1 1 1))
 
 child-routes : take 6 (drop 18 childOfTwo) ≡ 0 ∷ 0 ∷ 1 ∷ 1 ∷ 1 ∷ 0 ∷ []
-unfolding range only keep anyOf each isOpen onGrid cellAt landing reachFrom reach stepCost cost barsFor barsCell barsWay mayStand mayTurn cheaper better bestOf inFront bestWay bestRoute boundBy chainOf chains ownBars isBar barAt barFrom putRoute
+unfolding range only keep anyOf each isOpen onGrid cellAt landing reachFrom reach stepCost cost barsFor barsCell barsWay mayStand mayTurn moved moves outdone preferred better bestOf inFront bestWay bestRoute boundBy chainOf chains ownBars isBar barAt barFrom putRoute
 child-routes = refl
 
 -- 9 one record early: a fourth record is free
@@ -145,4 +146,36 @@ unfolding ChildWritten
 add-child-from-the-root columns' plans' layers' tables wrong =
     let e : plans' ≡ childOfTwo = tables .written .0 in
     let z : _≡_ {A = ℕ} 0 1 = ap (λ (l : List ℕ). getD l 4 9) (sym wrong ∙ ap (λ (l : List ℕ). take 6 (drop 18 l)) e ∙ child-routes) in
+    omega arith
+
+-- ---- a child whose carrier stands: the same cells, 3→2 with H 3 and N 2, and cell 2 barred at steps 1 and 2
+
+abbrev pub standing : Task
+standing =
+    record {
+      width = 2;
+      height = 2;
+      delay = 0;
+      horizon = 3;
+      capacity = 2;
+      team = record { starts = 3 ∷ 0 ∷ 0 ∷ 0 ∷ 0 ∷ 0 ∷ 0 ∷ 0 ∷ []; goals = 2 ∷ 0 ∷ 0 ∷ 0 ∷ 0 ∷ 0 ∷ 0 ∷ 0 ∷ []; count = 1 };
+    }
+
+-- the root alone: its sum is 1, and it is open
+abbrev pub rootColumns : List ℕ
+rootColumns = 0 ∷ 0 ∷ 0 ∷ 0 ∷ 0 ∷ 0 ∷ 0 ∷ 0 ∷ 0 ∷ 0 ∷ 0 ∷ 0 ∷ 1 ∷ 0 ∷ 1 ∷ 0 ∷ []
+
+abbrev pub rootOnly : List ℕ
+rootOnly = 3 ∷ 2 ∷ 2 ∷ 2 ∷ 0 ∷ 0 ∷ 0 ∷ 0 ∷ []
+
+standing-route : routeOn standing square rootColumns 0 0 (Stay 2 1 2) ≡ some (3 ∷ 3 ∷ 3 ∷ 2 ∷ [])
+unfolding range only keep anyOf each isOpen onGrid cellAt landing reachFrom reach stepCost cost barsFor barsCell barsWay mayStand mayTurn moved moves outdone preferred better bestOf inFront bestWay bestRoute boundBy chainOf chains ownBars isBar barAt barFrom
+standing-route = refl
+
+-- a way round through the other cells, which costs as much and comes first in the dictionary
+pub add-child-wandering : (columns' plans' layers' : List ℕ) → ChildTables standing square 0 (record { carrier = 0; bar = Stay 2 1 2 }) 1 rootColumns rootOnly columns' plans' layers' Made → take 4 (drop 4 plans') ≡ 3 ∷ 1 ∷ 0 ∷ 2 ∷ [] → ⊥
+unfolding ChildWritten putRoute
+add-child-wandering columns' plans' layers' tables wrong =
+    let e : plans' ≡ putRoute (jobOn standing square) (copiedPlans (jobOn standing square) rootOnly 0 1) 1 0 (some (3 ∷ 3 ∷ 3 ∷ 2 ∷ [])) = tables .written .0 ∙ ap (putRoute (jobOn standing square) (copiedPlans (jobOn standing square) rootOnly 0 1) 1 0) standing-route in
+    let z : _≡_ {A = ℕ} 1 3 = ap (λ (l : List ℕ). getD l 1 9) (sym wrong ∙ ap (λ (l : List ℕ). take 4 (drop 4 l)) e) in
     omega arith

@@ -1,23 +1,24 @@
 -- What the functions below `add_child` and `make_root` have done, said about the tables before and after. No reader has to believe
 -- these either.
-use Prim.Native.Nat.{ℕ, _<_}
+use Prim.Native.Nat.{ℕ, _+_, _*_, _≤_, _<_}
 use mathlib.Core.Path.{_≡_}
 use mathlib.Core.Bool.{Bool, true, false}
 use mathlib.Core.List.{List, []}
 use mathlib.Core.Option.{none, some}
+use lib.ListN.{length, getD}
 use Rattle.lent.specs.Lent.{SameFrom}
 use Rattle.job.specs.Job.{Job}
 use Rattle.routes.specs.Bars.{Barred}
 use Rattle.routes.specs.declared.Bar.{Bar}
-use Rattle.records.specs.Columns.{isBar}
+use Rattle.marks.specs.Post.{Layered}
+use Rattle.writer.specs.Write.{readRoute}
 use Rattle.tree.specs.Tree.{routeUnder, freeRoutes}
-use Rattle.tables.specs.State.{routesIn, stretchAt, Sound}
-use Rattle.tables.specs.Post.{BarFits}
-use Rattle.tables.specs.Tables.{columnsLength, plansLength, layersLength}
+use Rattle.tables.specs.State.{routesIn, stretchAt}
+use Rattle.tables.specs.Post.{Room, BarFits, Recorded}
+use Rattle.tables.specs.Tables.{plansLength, layersLength}
 use Rattle.children.specs.declared.Task.{Task}
-use Rattle.children.specs.declared.Grown.the-variants.{Made}
-use Rattle.children.specs.Steps.{jobOn, Ready, ChildFact}
-use Rattle.children.specs.Written.{routeOn, SoughtIn, SoughtFree, isFound, putRoute, ChildWritten, rootPlans, freeCount, lastSought}
+use Rattle.children.specs.Steps.{jobOn}
+use Rattle.children.specs.Written.{routeOn, SoughtIn, SoughtFree, isFound, putRoute, sumIn, copiedPlans, rootPlans, freeCount, lastSought}
 
 -- ---- one route
 
@@ -26,25 +27,35 @@ pub record RouteSought (task : Task) (bytes columns : List ℕ) (node carrier : 
   pub sought : SoughtIn task bytes columns node carrier bar layers'
   pub layers-kept : SameFrom (layersLength (jobOn task bytes)) layers layers'
 
+-- the layers of a carrier, from which its route may be read; the hall itself is not asked
+pub record Readable (task : Task) (carrier : ℕ) (layers : List ℕ) : Type 0 where
+  pub layered : Layered (task .width) (task .height) (task .horizon) layers
+  pub started : getD (task .team .starts) carrier 0 < task .width * task .height
+  pub inside : carrier < task .team .count
+  pub few : task .team .count ≤ 8
+
+-- the route that they hold
+abbrev pub routeRead : Task → ℕ → List ℕ → List ℕ
+routeRead task carrier layers = readRoute (task .width) (task .height) (task .horizon) layers (getD (task .team .starts) carrier 0)
+
+-- written over that of the carrier at node x, whatever the hall's bytes
+abbrev pub RoutePut : Task → List ℕ → ℕ → ℕ → List ℕ → List ℕ → Type 0
+RoutePut task layers x carrier plans plans' = (bytes : List ℕ) → plans' ≡ putRoute (jobOn task bytes) plans x carrier (some (routeRead task carrier layers))
+
 -- ---- a child
 
--- a route was found for a carrier at a node with one new bar, and a record is free for the child
-pub record ChildDue (task : Task) (bytes layers columns plans : List ℕ) (node carrier : ℕ) (bar : Bar) (made : ℕ) : Type 0 where
-  pub ready : Ready task bytes layers
-  pub sound : Sound (jobOn task bytes) (task .capacity) columns plans made
+-- a route may be read for the child of a node with one new bar, and a record is free for it
+pub record ChildDue (task : Task) (layers columns plans : List ℕ) (node carrier : ℕ) (bar : Bar) (made : ℕ) : Type 0 where
+  pub readable : Readable task carrier layers
   pub low : node < made
-  pub room : made < task .capacity
-  pub inside : carrier < task .team .count
+  pub room : Room (task .capacity) columns made
   pub fits : BarFits bar
-  pub bars : isBar bar ≡ true
-  pub sought : SoughtIn task bytes columns node carrier bar layers
-  pub found : true ≡ isFound (routeOn task bytes columns node carrier bar)
+  pub plans-long : made * (task .team .count * (task .horizon + 1)) + task .team .count * (task .horizon + 1) ≤ length plans
 
-pub record ChildMade (task : Task) (bytes : List ℕ) (node : ℕ) (b : Barred) (made : ℕ) (columns plans columns' plans' : List ℕ) : Type 0 where
-  pub columns-kept : SameFrom (columnsLength (task .capacity)) columns columns'
-  pub plans-kept : SameFrom (plansLength (jobOn task bytes) (task .capacity)) plans plans'
-  pub grown : ChildFact (jobOn task bytes) (task .capacity) node b made columns plans columns' plans' Made
-  pub written : ChildWritten task bytes node b made columns plans columns' plans' Made
+-- it has its parent's routes, but for the one that was read, and its record
+pub record ChildMade (task : Task) (layers : List ℕ) (node : ℕ) (b : Barred) (made : ℕ) (columns plans columns' plans' : List ℕ) : Type 0 where
+  pub put : (bytes : List ℕ) → plans' ≡ putRoute (jobOn task bytes) (copiedPlans (jobOn task bytes) plans node made) made (b .carrier) (some (routeRead task (b .carrier) layers))
+  pub recorded : Recorded (task .capacity) columns made node (b .carrier) (b .bar) (sumIn task plans' made) columns'
 
 -- ---- the root's routes
 

@@ -37,6 +37,7 @@ pub record Ready (task : Task) (bytes layers : List ℕ) : Type 0 where
   pub capacity-least : 1 ≤ task .capacity
   pub capacity-most : task .capacity ≤ 1024
   pub starts-inside : (i : ℕ) → i < task .team .count → getD (task .team .starts) i 0 < task .width * task .height
+  pub goals-inside : (i : ℕ) → i < task .team .count → getD (task .team .goals) i 0 < task .width * task .height
   pub layers-long : layersLength (jobOn task bytes) ≤ length layers
 
 -- what no step touches: the lengths of the tables and what lies past their least lengths

@@ -1,4 +1,4 @@
--- What the lent tables hold after `add_child` and `make_root`, entry by entry: the levels of the last route that was sought, the routes
+-- What the lent tables hold after `add_child` and `make_root`, entry by entry: the layers of the last route that was sought, the routes
 -- that were written, and the record. What lies past the least lengths is in `Kept`.
 use Prim.Native.Nat.{ℕ, zero, suc, _+_, _-_, _*_, min}
 use mathlib.Core.Path.{_≡_}
@@ -32,11 +32,11 @@ routeOn task bytes columns node carrier bar = bestRoute (jobOn task bytes) carri
 -- the layers hold what is wanted to read it off
 abbrev pub SoughtIn : Task → List ℕ → List ℕ → ℕ → ℕ → Bar → List ℕ → Type 0
 SoughtIn task bytes columns node carrier bar layers =
-    Filled (jobOn task bytes .hall) (boundBy (task .capacity) columns node carrier bar) (getD (task .team .goals) carrier 0) (task .horizon) layers
+    Filled (jobOn task bytes .hall) (boundBy (task .capacity) columns node carrier bar) (getD (task .team .starts) carrier 0) (getD (task .team .goals) carrier 0) (task .horizon) layers
 
 -- the same for its route without bars
 abbrev pub SoughtFree : Task → List ℕ → ℕ → List ℕ → Type 0
-SoughtFree task bytes carrier layers = Filled (jobOn task bytes .hall) [] (getD (task .team .goals) carrier 0) (task .horizon) layers
+SoughtFree task bytes carrier layers = Filled (jobOn task bytes .hall) [] (getD (task .team .starts) carrier 0) (getD (task .team .goals) carrier 0) (task .horizon) layers
 
 unfoldable pub isFound : Option (List ℕ) → Bool
 isFound none = false

@@ -1,18 +1,21 @@
 // The nodes of the tree in the lent tables: the root (rule 3) and a child (rule 7), each with its record and its stretch of routes.
+use hall::Grid;
 use job::Team;
 use layers::Sought;
+use layers::Trip;
+use marks::Bound;
 use routes::Bar;
 ghost use Prim.Native.Nat.{_+_, _*_, _≤_, _<_};
 ghost use mathlib.Core.Path.{_≡_};
-ghost use lib.ListN.{length};
+ghost use lib.ListN.{length, getD};
 ghost use Rattle.job.specs.Job.{planLength};
 ghost use Rattle.routes.specs.declared.Bar.the-variants.{Free};
 ghost use Rattle.records.specs.Columns.{barAt, Falls};
 ghost use Rattle.tables.specs.State.{Sound};
 ghost use Rattle.tables.specs.Tables.{plansLength};
 ghost use Rattle.children.specs.Steps.{jobOn, Ready, Kept, BarSet, ChildFact, RootFact};
-ghost use Rattle.children.specs.Written.{routeOn, SoughtIn, putRoute, sumIn, ChildTables, RootTables};
-ghost use Rattle.children.specs.Children.{RouteSought, ChildDue, ChildMade, FreeRoute, FreeRoutes};
+ghost use Rattle.children.specs.Written.{sumIn, ChildTables, RootTables};
+ghost use Rattle.children.specs.Children.{RouteSought, Readable, RoutePut, ChildDue, ChildMade, FreeRoute, FreeRoutes};
 
 // An accepted job's numbers and carriers, and N: what a search works on beside the hall and the tables.
 pub struct Task {
@@ -39,6 +42,33 @@ pub fn stretch_of(task: Task) -> usize
     task.team.count * (task.horizon + 1)
 }
 
+// ---- one route
+
+// The grid that a task's carriers move on.
+fn grid_of(task: Task) -> Grid
+    ensures { λ r. ⌜ r ≡ record { width = task .width; height = task .height } ⌝ }
+{
+    Grid {
+        width: task.width,
+        height: task.height,
+    }
+}
+
+// What a route is sought for: a carrier's start and goal, and H.
+fn trip_of(task: Task, carrier: usize) -> Trip
+    requires { ⌜ (carrier < task .team .count) × (task .team .count ≤ 8) ⌝ }
+    ensures { λ r. ⌜ r ≡ record { start = getD (task .team .starts) carrier 0; goal = getD (task .team .goals) carrier 0; horizon = task .horizon } ⌝ }
+{
+    let team = task.team;
+    let start = team.starts[carrier] as usize;
+    let goal = team.goals[carrier] as usize;
+    Trip {
+        start: start,
+        goal: goal,
+        horizon: task.horizon,
+    }
+}
+
 // Rule 2 for the barred carrier of a child: has it a route under the node's bars and the new one?
 fn has_route(
     hall: &[u8],
@@ -52,65 +82,32 @@ fn has_route(
     requires { ⌜ Ready task (now hall) (now layers) ⌝ ∗ ⌜ Falls (task .capacity) (now columns) node ⌝ ∗ ⌜ carrier < task .team .count ⌝ }
     ensures { λ r. ⌜ RouteSought task (now (hall .entry)) (now (columns .entry)) node carrier bar (now (layers .entry)) (now (layers .exit)) r ⌝ }
 {
-    let team = task.team;
-    let start = team.starts[carrier] as usize;
-    let goal = team.goals[carrier] as usize;
-    let found = layers::seek_route(
-        hall,
-        task.width,
-        task.height,
-        start,
-        goal,
-        task.horizon,
-        columns,
-        task.capacity,
-        node,
-        carrier,
-        bar,
-        layers,
-    );
+    let grid = grid_of(task);
+    let trip = trip_of(task, carrier);
+    let bound = Bound {
+        capacity: task.capacity,
+        node: node,
+        carrier: carrier,
+        bar: bar,
+    };
+    let found = layers::seek_route(hall, grid, trip, columns, bound, layers);
     match found {
         Sought::Nothing => false,
         Sought::Cost(_) => true,
     }
 }
 
-// The route that was sought, written into the carrier's part of a node's stretch.
-fn put_route(
-    hall: &[u8],
-    task: Task,
-    node: usize,
-    carrier: usize,
-    bar: Bar,
-    columns: &[u16],
-    layers: &[u8],
-    into: usize,
-    plans: &mut [u8],
-)
-    requires { ⌜ Ready task (now hall) (now layers) ⌝ ∗ ⌜ Falls (task .capacity) (now columns) node ⌝ ∗ ⌜ SoughtIn task (now hall) (now columns) node carrier bar (now layers) ⌝ ∗ ⌜ (carrier < task .team .count) × (into < task .capacity) × (plansLength (jobOn task (now hall)) (task .capacity) ≤ length (now plans)) ⌝ }
-    ensures { λ r. ⌜ now (plans .exit) ≡ putRoute (jobOn task (now (hall .entry))) (now (plans .entry)) into carrier (routeOn task (now (hall .entry)) (now (columns .entry)) node carrier bar) ⌝ }
+// The route that the layers hold, written into the carrier's part of a node's stretch.
+fn put_route(task: Task, carrier: usize, layers: &[u8], into: usize, plans: &mut [u8])
+    requires { ⌜ Readable task carrier (now layers) ⌝ ∗ ⌜ into * (task .team .count * (task .horizon + 1)) + task .team .count * (task .horizon + 1) ≤ length (now plans) ⌝ }
+    ensures { λ r. ⌜ RoutePut task (now (layers .entry)) into carrier (now (plans .entry)) (now (plans .exit)) ⌝ }
 {
-    let team = task.team;
-    let start = team.starts[carrier] as usize;
-    let goal = team.goals[carrier] as usize;
+    let grid = grid_of(task);
+    let trip = trip_of(task, carrier);
     let rows = task.horizon + 1;
     let from = into * stretch_of(task) + carrier * rows;
     let to = from + rows;
-    writer::write_route(
-        hall,
-        task.width,
-        task.height,
-        start,
-        goal,
-        task.horizon,
-        columns,
-        task.capacity,
-        node,
-        carrier,
-        bar,
-        layers,
-        &mut plans[from..to],
-    );
+    writer::write_route(layers, grid, trip, &mut plans[from..to]);
 }
 
 // The sum of a node, from the routes in its stretch.
@@ -124,9 +121,10 @@ pub fn sum_at(task: Task, node: usize, plans: &[u8]) -> usize
     tables::sum_of(&plans[from..to], task.team, task.horizon)
 }
 
+// ---- a child
+
 // The child takes the next number and one record; its other routes are its parent's.
 fn make_child(
-    hall: &[u8],
     task: Task,
     node: usize,
     carrier: usize,
@@ -136,12 +134,12 @@ fn make_child(
     plans: &mut [u8],
     layers: &[u8],
 )
-    requires { ⌜ ChildDue task (now hall) (now layers) (now columns) (now plans) node carrier bar made ⌝ }
-    ensures { λ r. ⌜ ChildMade task (now (hall .entry)) node (record { carrier = carrier; bar = bar }) made (now (columns .entry)) (now (plans .entry)) (now (columns .exit)) (now (plans .exit)) ⌝ }
+    requires { ⌜ ChildDue task (now layers) (now columns) (now plans) node carrier bar made ⌝ }
+    ensures { λ r. ⌜ ChildMade task (now (layers .entry)) node (record { carrier = carrier; bar = bar }) made (now (columns .entry)) (now (plans .entry)) (now (columns .exit)) (now (plans .exit)) ⌝ }
 {
     let size = stretch_of(task);
     lent::copy_stretch(plans, node * size, made * size, size);
-    put_route(hall, task, node, carrier, bar, columns, layers, made, plans);
+    put_route(task, carrier, layers, made, plans);
     let sum = sum_at(task, made, plans);
     tables::write_record(columns, task.capacity, made, node, carrier, bar, sum);
 }
@@ -171,9 +169,11 @@ pub fn add_child(
     if made == task.capacity {
         return Grown::Full;
     }
-    make_child(hall, task, node, carrier, bar, made, columns, plans, layers);
+    make_child(task, node, carrier, bar, made, columns, plans, layers);
     Grown::Made
 }
+
+// ---- the root
 
 // Rule 3 for one carrier: its route without bars, written into the root's stretch.
 fn free_route(
@@ -191,7 +191,7 @@ fn free_route(
     if !found {
         return false;
     }
-    put_route(hall, task, 0, carrier, Bar::Free, columns, layers, 0, plans);
+    put_route(task, carrier, layers, 0, plans);
     true
 }
 

@@ -10,12 +10,18 @@ ghost use Rattle.hall.specs.Moves.{rowChanges, colChanges, onGrid, landi
 ghost use Rattle.hall.specs.Landing.{landed};
 
 // 'A hall byte is 46 ('.', open) or 35 ('#', closed).'
-const OPEN: u8 = 46;
+pub const OPEN: u8 = 46;
 
 const CLOSED: u8 = 35;
 
 // 'A hall is a grid of 1 to 16 columns (width) by 1 to 16 rows (height).'
 pub const MOST_SIDE: usize = 16;
+
+// Columns and rows, where they are handed on together.
+pub struct Grid {
+    pub width: usize,
+    pub height: usize,
+}
 
 // A side that is no number from 1 to 16.
 fn wrong_side(n: usize) -> bool

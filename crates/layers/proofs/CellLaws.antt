@@ -1,107 +1,99 @@
--- What filling does to one cell, as the code does it: each function's answer is the definition's, case by case.
--- Assumes nothing.
-use Prim.Native.Nat.{ℕ, zero, suc, _+_, _≤_}
+-- The level of one cell, function by function: the entry that a move leads to lies on the slate, a move is one more where moves are counted,
+-- and the level is the least of the ways on. Assumes nothing.
+use Prim.Native.Nat.{ℕ, zero, suc, _+_, _-_, _*_, min, max, _≤_, _<_}
 use native.Mathlib.Omega.{arith}
-use mathlib.Core.Path.{_≡_, refl}
-use mathlib.Core.Bool.{Bool, true, false, not, _&&_}
+use mathlib.Core.Path.{_≡_, refl, sym, ap, _∙_}
+use mathlib.Core.Bool.{Bool, true, false, true≢false, _||_}
+use mathlib.Core.List.{List}
 use lib.Dec.{eqb}
-use borrow.Author.Tests.{eq-eqb, ne-eqb, eqb-false}
-use Rattle.routes.proofs.Cost.{step-most}
-use Rattle.hall.specs.Hall.{Hall, isOpen}
-use Rattle.routes.specs.Route.{stepCost}
-use Rattle.layers.specs.Layers.{crossingStarts}
-use Rattle.layers.specs.Fill.{afterStep, mayBegin, lastLevel, lastByte}
+use lib.ListN.{getD}
+use borrow.Author.Tests.{eq-eqb, ne-eqb}
+use Rattle.hall.specs.Moves.{rowChanges, colChanges, moveCount}
+use Rattle.layers.specs.Fill.{oneMore, paidFor, nearEntry, shutBy, wayBy, leastWay, levelBy}
 
--- ---- a step more in front
+-- ---- the entry that a move leads to
 
-pub step-none : (b : Bool) (least : ℕ) → least ≡ 127 → 127 ≡ afterStep b least
-unfolding afterStep
-step-none b least e = rw e
+-- where it lies, with the changes d and r of row and column
+pub record NearPlace (width at m d r : ℕ) : Type 0 where
+  pub down : width * d ≤ width + width
+  pub right : r ≤ 2
+  pub low : width + 1 ≤ at + width * d + r
+  pub high : at + width * d + r - (width + 1) ≤ at + width
+  pub above : at ≤ at + width * d + r - (width + 1) + width
+  pub entry : at + width * d + r - (width + 1) ≡ nearEntry width at m
 
-pub step-stays : (b : Bool) (least : ℕ) → b ≡ true → least ≡ 0 → 0 ≡ afterStep b least
-unfolding afterStep stepCost
-step-stays b least e k = rw (e, k)
+near-at : (width at m : ℕ) → m < moveCount → 1 ≤ width → width ≤ at → NearPlace width at m (getD rowChanges m 1) (getD colChanges m 1)
+unfolding nearEntry
+near-at width at zero h i j = record { down = omega arith; right = omega arith; low = omega arith; high = omega arith; above = omega arith; entry = refl }
+near-at width at (suc zero) h i j = record { down = omega arith; right = omega arith; low = omega arith; high = omega arith; above = omega arith; entry = refl }
+near-at width at (suc (suc zero)) h i j = record { down = omega arith; right = omega arith; low = omega arith; high = omega arith; above = omega arith; entry = refl }
+near-at width at (suc (suc (suc zero))) h i j = record { down = omega arith; right = omega arith; low = omega arith; high = omega arith; above = omega arith; entry = refl }
+near-at width at (suc (suc (suc (suc zero)))) h i j = record { down = omega arith; right = omega arith; low = omega arith; high = omega arith; above = omega arith; entry = refl }
+near-at width at (suc (suc (suc (suc (suc m))))) h i j = absurd (omega arith)
 
-pub step-arrives : (b : Bool) (least : ℕ) → b ≡ false → least ≡ 0 → 1 ≡ afterStep b least
-unfolding afterStep stepCost
-step-arrives b least e k = rw (e, k)
+pub near-facts : (width at m d r : ℕ) → m < moveCount → 1 ≤ width → width ≤ at → d ≡ getD rowChanges m 1 → r ≡ getD colChanges m 1 → NearPlace width at m d r
+near-facts width at m d r h i j e k = rw (e, k) (near-at width at m h i j)
 
-pub step-more : (b : Bool) (least : ℕ) → (least ≡ 127 → ⊥) → (least ≡ 0 → ⊥) → least + 1 ≡ afterStep b least
-unfolding afterStep stepCost
-step-more b zero n k = absurd (k refl)
-step-more true (suc c) n k = rw (afterStep, ne-eqb (suc c) 127 n) (omega arith)
-step-more false (suc c) n k = rw (afterStep, ne-eqb (suc c) 127 n) (omega arith)
+-- an entry of a row above to a row below
+pub near-within : (width at m : ℕ) → m < moveCount → 1 ≤ width → width ≤ at → (at ≤ nearEntry width at m + width) × (nearEntry width at m ≤ at + width)
+unfolding nearEntry
+near-within width at m h i j = let b = near-at width at m h i j in (b .above, b .high)
 
--- ---- a level fits a byte, with the crossing's mark
+-- ---- a stay is no move
 
-pub step-small : (b : Bool) (least : ℕ) → least ≤ 127 → afterStep b least ≤ 127
-unfolding afterStep stepCost
-step-small b least h = go b (eqb least 127) refl
-  where
-    go : (b c : Bool) → eqb least 127 ≡ c → elim c [ true ↦ 127 | false ↦ stepCost b least ] ≤ 127
-    go b true e = omega arith
-    go b false e = let n : ¬ (least ≡ 127) = eqb-false least 127 e in omega (arith, step-most b least)
+pub one-more : (level low : ℕ) → low ≡ min level 254 → low + 1 ≡ oneMore level
+unfolding oneMore
+one-more level low e = ap (λ x. x + 1) e
 
-last-small : (hall : Hall) (goal v mark : ℕ) → lastLevel hall goal v mark ≤ 127
-unfolding lastLevel
-last-small hall goal v mark = go (mayBegin hall v mark && eqb v goal)
-  where
-    go : (b : Bool) → elim b [ true ↦ 0 | false ↦ 127 ] ≤ 127
-    go true = omega arith
-    go false = omega arith
+pub paid-moves : (moves : Bool) (level more : ℕ) → moves ≡ true → more ≡ oneMore level → more ≡ paidFor moves level
+unfolding paidFor
+paid-moves true level more e k = k
+paid-moves false level more e k = absurd (true≢false (sym e))
 
-pub crossing-none : (mark : ℕ) → mark ≡ 0 → 0 ≡ crossingStarts mark
-unfolding crossingStarts
-crossing-none mark e = rw e
+pub paid-ends : (moves : Bool) (level : ℕ) → moves ≡ false → level ≡ paidFor moves level
+unfolding paidFor
+paid-ends true level e = absurd (true≢false e)
+paid-ends false level e = refl
 
-pub crossing-barred : (mark : ℕ) → mark ≡ 255 → 0 ≡ crossingStarts mark
-unfolding crossingStarts
-crossing-barred mark e = rw e
+-- ---- the ways on
 
-pub crossing-one : (mark : ℕ) → (mark ≡ 0 → ⊥) → (mark ≡ 255 → ⊥) → 128 ≡ crossingStarts mark
-unfolding crossingStarts
-crossing-one mark n k = rw (crossingStarts, ne-eqb mark 0 n, ne-eqb mark 255 k)
+pub side-left : (m : ℕ) → m ≡ 1 → eqb m 1 ≡ (eqb m 1 || eqb m 3)
+side-left m e = rw (eq-eqb m 1 e)
 
-pub crossing-small : (mark : ℕ) → crossingStarts mark ≤ 128
-unfolding crossingStarts
-crossing-small mark = go (eqb mark 0) (eqb mark 255)
-  where
-    go : (a b : Bool) → elim a [ true ↦ 0 | false ↦ elim b [ true ↦ 0 | false ↦ 128 ] ] ≤ 128
-    go true b = omega arith
-    go false true = omega arith
-    go false false = omega arith
+pub side-right : (m : ℕ) → (m ≡ 1 → ⊥) → eqb m 3 ≡ (eqb m 1 || eqb m 3)
+side-right m n = rw (ne-eqb m 1 n)
 
--- ---- a cell at the horizon
+second-asked : (a b : Bool) (x : ℕ) → b ≡ true → elim (a || b) [ true ↦ x | false ↦ 0 ] ≡ x
+second-asked true b x e = refl
+second-asked false b x e = rw e
 
-pub last-barred : (hall : Hall) (goal v mark : ℕ) → mark ≡ 255 → 127 ≡ lastLevel hall goal v mark
-unfolding lastLevel mayBegin
-last-barred hall goal v mark e = go (isOpen hall v) (eqb mark 255) (eqb v goal) (eq-eqb mark 255 e)
-  where
-    go : (a b c : Bool) → b ≡ true → _≡_ {A = ℕ} 127 (elim ((a && not b) && c) [ true ↦ 0 | false ↦ 127 ])
-    go true b c e = rw e
-    go false b c e = refl
+none-asked : (a b : Bool) (x : ℕ) → a ≡ false → b ≡ false → _≡_ {A = ℕ} (elim (a || b) [ true ↦ x | false ↦ 0 ]) 0
+none-asked a b x e k = rw (e, k)
 
-pub last-away : (hall : Hall) (goal v mark : ℕ) → (v ≡ goal → ⊥) → 127 ≡ lastLevel hall goal v mark
-unfolding lastLevel
-last-away hall goal v mark n = go (mayBegin hall v mark) (eqb v goal) (ne-eqb v goal n)
-  where
-    go : (a c : Bool) → c ≡ false → _≡_ {A = ℕ} 127 (elim (a && c) [ true ↦ 0 | false ↦ 127 ])
-    go true c e = rw e
-    go false c e = refl
+module _ (crossing : Bool) (slate shuts : List ℕ) (width at v m level : ℕ) (near : level ≡ getD slate (nearEntry width at m) 0) where
+  asked : (s : ℕ) → shutBy crossing shuts v m ≡ s → (way : ℕ) → way ≡ max level s → way ≡ wayBy crossing slate shuts width at v m
+  unfolding wayBy
+  asked s e way k = k ∙ (ap (λ x. max x s) near ∙ ap (max (getD slate (nearEntry width at m) 0)) (sym e))
 
-pub last-closed : (hall : Hall) (goal v mark : ℕ) → isOpen hall v ≡ false → 127 ≡ lastLevel hall goal v mark
-unfolding lastLevel mayBegin
-last-closed hall goal v mark e = rw (lastLevel, mayBegin, e)
+  pub way-aside : (side : Bool) (way : ℕ) → side ≡ (eqb m 1 || eqb m 3) → side ≡ true → way ≡ max level (getD shuts (m * 256 + v) 0) → way ≡ wayBy crossing slate shuts width at v m
+  unfolding shutBy
+  way-aside side way e k = asked (getD shuts (m * 256 + v) 0) (ap {B = ℕ} (λ b. elim (b || crossing) [ true ↦ getD shuts (m * 256 + v) 0 | false ↦ 0 ]) (sym e ∙ k)) way
 
-pub last-there : (hall : Hall) (goal v mark : ℕ) → (mark ≡ 255 → ⊥) → v ≡ goal → isOpen hall v ≡ true → 0 ≡ lastLevel hall goal v mark
-unfolding lastLevel mayBegin
-last-there hall goal v mark n k e = rw (lastLevel, mayBegin, e, ne-eqb mark 255 n, eq-eqb v goal k)
+  pub way-crossed : (way : ℕ) → crossing ≡ true → way ≡ max level (getD shuts (m * 256 + v) 0) → way ≡ wayBy crossing slate shuts width at v m
+  unfolding shutBy
+  way-crossed way e = asked (getD shuts (m * 256 + v) 0) (second-asked (eqb m 1 || eqb m 3) crossing (getD shuts (m * 256 + v) 0) e) way
 
--- ---- the byte: a level, and whether a crossing starts
+  pub way-open : (side : Bool) → side ≡ (eqb m 1 || eqb m 3) → side ≡ false → crossing ≡ false → level ≡ wayBy crossing slate shuts width at v m
+  unfolding shutBy
+  way-open side e k q = asked 0 (none-asked (eqb m 1 || eqb m 3) crossing (getD shuts (m * 256 + v) 0) (sym e ∙ k) q) level (omega arith)
 
-pub byte-last : (hall : Hall) (goal v mark l x : ℕ) → l ≡ lastLevel hall goal v mark → x ≡ crossingStarts mark → (l + x ≤ 255) × (l + x ≡ lastByte hall goal v mark)
-unfolding lastByte
-byte-last hall goal v mark l x e k =
-    let small = last-small hall goal v mark in
-    let low = crossing-small mark in
-    (omega arith, omega arith)
+-- ---- the least of them, and the level
+
+module _ (moves crossing : Bool) (slate shuts : List ℕ) (width : ℕ) where
+  pub least-read : (at v up left stay right down a b away none paid least : ℕ) → up ≡ wayBy crossing slate shuts width at v 0 → left ≡ wayBy crossing slate shuts width at v 1 → stay ≡ wayBy crossing slate shuts width at v 2 → right ≡ wayBy crossing slate shuts width at v 3 → down ≡ wayBy crossing slate shuts width at v 4 → a ≡ min up left → b ≡ min right down → away ≡ min a b → none ≡ min 255 stay → paid ≡ paidFor moves away → least ≡ min none paid → least ≡ leastWay moves crossing slate shuts width at v
+  unfolding leastWay
+  least-read at v up left stay right down a b away none paid least e0 e1 e2 e3 e4 ea eb ew en ep el = rw (← e0, ← e1, ← e2, ← e3, ← e4, ← ea, ← eb, ← ew, ← en, ← ep) el
+
+  pub level-put : (from v byte mark least level : ℕ) → mark ≡ max byte (getD shuts (1280 + v) 0) → least ≡ leastWay moves crossing slate shuts width (from + 16 + v) v → level ≡ max mark least → level ≡ levelBy moves crossing slate shuts width from v byte
+  unfolding levelBy
+  level-put from v byte mark least level e k q = rw (← e, ← k) q

@@ -1,48 +1,112 @@
--- Wrong answers that the contracts of `level_at` and `seek_route` rule out. Those of `seek_route` are at a hall of 2 by 2 without bars;
--- antt computes the best route there. Assumes nothing.
-use Prim.Native.Nat.{ℕ, _%_}
+-- Wrong answers that the contracts of `one_more` and `seek_route` rule out. Those of `seek_route` are at halls of four cells at most; antt
+-- computes there the answer and the bytes that are to be. Assumes nothing.
+use Prim.Native.Nat.{ℕ}
 use native.Mathlib.Omega.{arith}
-use mathlib.Core.Path.{_≡_, ap}
+use mathlib.Core.Path.{_≡_, refl, sym, ap, _∙_}
 use mathlib.Core.List.{List, [], _∷_}
 use lib.ListN.{getD}
-use Rattle.lists.specs.Lists.{range, only, keep, anyOf, each}
-use Rattle.hall.specs.Hall.{isOpen}
+use Rattle.lists.specs.Lists.{range, only, keep, anyOf, each, sumTo}
+use Rattle.hall.specs.Hall.{Hall, isOpen}
 use Rattle.hall.specs.Moves.{onGrid, cellAt, landing, reachFrom, reach}
 use Rattle.routes.specs.Route.{stepCost, cost}
-use Rattle.routes.specs.Bars.{mayStand, mayTurn}
-use Rattle.routes.specs.Best.{cheaper, better, bestOf, inFront, bestWay}
-use Rattle.layers.specs.Fill.{lentHall}
-use Rattle.layers.specs.Layers.{soughtOf}
+use Rattle.routes.specs.Bars.{barsCell, barsWay, mayStand, mayTurn}
+use Rattle.routes.specs.Best.{moved, moves, outdone, preferred, better, bestOf, inFront, bestWay}
+use Rattle.routes.specs.declared.Bar.{Bar}
+use Rattle.routes.specs.declared.Bar.the-variants.{Stay, Cross}
+use Rattle.marks.specs.Marks.{barsMove, digit, digitsOf}
+use Rattle.layers.specs.Fill.{oneMore}
+use Rattle.layers.specs.Layers.{wayFrom, routeFrom, soughtOf, endOf, movesOf, movesTo, byteAt}
 use Rattle.layers.specs.Post.{SoughtRoute}
 use Rattle.layers.specs.declared.Sought.{Sought}
 use Rattle.layers.specs.declared.Sought.the-variants.{Nothing, Cost}
 
--- ---- level_at, at two entries: level 3 where a barred crossing starts, and level 5 where none does
+-- ---- one_more
 
-abbrev entries : List ℕ
-entries = 131 ∷ 5 ∷ []
+-- none goes round to no moves at all
+pub none-goes-round : 0 ≡ oneMore 255 → ⊥
+unfolding oneMore
+none-goes-round e = let z : _≡_ {A = ℕ} 0 255 = e in omega arith
 
--- the crossing's mark left in the level
-pub crossing-left-in : 131 ≡ getD entries 0 0 % 128 → ⊥
-crossing-left-in e = let z : _≡_ {A = ℕ} 131 3 = e in omega arith
+-- a move not counted
+pub move-not-counted : 3 ≡ oneMore 3 → ⊥
+unfolding oneMore
+move-not-counted e = let z : _≡_ {A = ℕ} 3 4 = e in omega arith
 
--- the next entry read
-pub next-entry-read : 5 ≡ getD entries 0 0 % 128 → ⊥
-next-entry-read e = let z : _≡_ {A = ℕ} 5 3 = e in omega arith
+-- ---- seek_route: the answer
 
--- ---- seek_route
-
--- the answer in numbers: 9 for none
+-- in numbers: 9 for none
 abbrev told : Sought → ℕ
 told Nothing = 9
 told (Cost c) = c
 
+abbrev open-square : Hall
+open-square = record { width = 2; height = 2; bytes = 46 ∷ 46 ∷ 46 ∷ 46 ∷ [] }
+
+-- cells 0 and 3 are closed, so that nothing leads from 1 to 2
+abbrev split-square : Hall
+split-square = record { width = 2; height = 2; bytes = 35 ∷ 46 ∷ 46 ∷ 35 ∷ [] }
+
 -- a step counted on the goal although all of the rest is on it
-pub goal-not-mended : (before after : List ℕ) → SoughtRoute (lentHall 2 2 (46 ∷ 46 ∷ 46 ∷ 46 ∷ [])) [] 3 3 1 before after (Cost 1) → ⊥
-unfolding soughtOf bestWay inFront bestOf better cheaper cost stepCost mayStand mayTurn isOpen reach reachFrom landing cellAt onGrid range only keep anyOf each
+pub goal-not-mended : (before after : List ℕ) → SoughtRoute open-square [] 3 3 1 before after (Cost 1) → ⊥
+unfolding soughtOf bestWay inFront bestOf better preferred outdone moves moved cost stepCost mayStand mayTurn isOpen reach reachFrom landing cellAt onGrid range only keep anyOf each
 goal-not-mended before after s = let z : _≡_ {A = ℕ} 1 0 = ap told (s .told) in omega arith
 
--- right from the last column onto the next row: cells 0 and 3 are closed, so that nothing leads from 1 to 2
-pub edge-not-asked : (before after : List ℕ) → SoughtRoute (lentHall 2 2 (35 ∷ 46 ∷ 46 ∷ 35 ∷ [])) [] 1 2 1 before after (Cost 1) → ⊥
-unfolding soughtOf bestWay inFront bestOf better cheaper cost stepCost mayStand mayTurn isOpen reach reachFrom landing cellAt onGrid range only keep anyOf each
+-- right from the last column onto the next row
+pub edge-not-asked : (before after : List ℕ) → SoughtRoute split-square [] 1 2 1 before after (Cost 1) → ⊥
+unfolding soughtOf bestWay inFront bestOf better preferred outdone moves moved cost stepCost mayStand mayTurn isOpen reach reachFrom landing cellAt onGrid range only keep anyOf each
 edge-not-asked before after s = let z : _≡_ {A = ℕ} 1 9 = ap told (s .told) in omega arith
+
+-- the moves before the cost: from 0 to 1, the crossing barred up to step 2, by four steps with one move and not by three with three
+pub moves-before-cost : (before after : List ℕ) → SoughtRoute open-square (Cross 0 1 0 ∷ Cross 0 1 1 ∷ Cross 0 1 2 ∷ []) 0 1 4 before after (Cost 4) → ⊥
+unfolding soughtOf bestWay inFront bestOf better preferred outdone moves moved cost stepCost mayStand mayTurn barsCell barsWay isOpen reach reachFrom landing cellAt onGrid range only keep anyOf each
+moves-before-cost before after s = let z : _≡_ {A = ℕ} 4 3 = ap told (s .told) in omega arith
+
+-- ---- seek_route: the layers
+
+-- three cells in a row
+abbrev row : Hall
+row = record { width = 3; height = 1; bytes = 46 ∷ 46 ∷ 46 ∷ [] }
+
+-- a byte of the first plane
+abbrev byte : List Bar → ℕ → ℕ → ℕ → ℕ → ℕ → ℕ
+byte bars start goal h t v = byteAt row bars goal h (endOf goal 0 (routeFrom row bars start goal h)) t v
+
+-- From 0 to 1 with H 2 the route ends at step 1: there the way from 0 ends later, and the goal has no moves left; at step 2 the goal has its
+-- end. From 1 to 2 with H 4, where 2 is barred at steps 1 to 3: the route is 1 1 1 1 2, and 1 0 0 1 2 comes before it in the dictionary.
+abbrev barred : List Bar
+barred = Stay 2 1 3 ∷ []
+
+computed : (byte [] 0 1 2 1 0 ≡ 255) × (byte [] 0 1 2 1 1 ≡ 0) × (byte [] 0 1 2 2 1 ≡ 2) × (byte barred 1 2 4 0 1 ≡ 1)
+unfolding byteAt movesTo movesOf endOf wayFrom bestWay inFront bestOf better preferred outdone moves moved cost stepCost mayStand mayTurn barsCell barsWay isOpen reach reachFrom landing cellAt onGrid range only keep anyOf each
+computed = (refl, refl, refl, refl)
+
+-- the moves of a way that ends later
+pub later-way-counted : (before after : List ℕ) (r : Sought) → SoughtRoute row [] 0 1 2 before after r → getD after 3 0 ≡ moves (0 ∷ 1 ∷ []) → ⊥
+unfolding moves moved
+later-way-counted before after r s wrong = let z : _≡_ {A = ℕ} 1 255 = sym wrong ∙ s .filled .levels 1 0 (omega arith) (omega arith) ∙ computed .0 in omega arith
+
+-- the second pass left out: an end for moves
+pub end-for-moves : (before after : List ℕ) (r : Sought) → SoughtRoute row [] 0 1 2 before after r → getD after 4 0 ≡ 1 → ⊥
+end-for-moves before after r s wrong = let z : _≡_ {A = ℕ} 1 0 = sym wrong ∙ s .filled .levels 1 1 (omega arith) (omega arith) ∙ computed .1 in omega arith
+
+-- the second pass begun at the horizon: moves for an end
+pub moves-for-end : (before after : List ℕ) (r : Sought) → SoughtRoute row [] 0 1 2 before after r → getD after 7 0 ≡ 0 → ⊥
+moves-for-end before after r s wrong = let z : _≡_ {A = ℕ} 0 2 = sym wrong ∙ s .filled .levels 2 1 (omega arith) (omega arith) ∙ computed .2 in omega arith
+
+-- the dictionary before the moves
+pub dictionary-first : (before after : List ℕ) (r : Sought) → SoughtRoute row barred 1 2 4 before after r → getD after 1 0 ≡ moves (1 ∷ 0 ∷ 0 ∷ 1 ∷ 2 ∷ []) → ⊥
+unfolding moves moved
+dictionary-first before after r s wrong = let z : _≡_ {A = ℕ} 3 1 = sym wrong ∙ s .filled .levels 0 1 (omega arith) (omega arith) ∙ computed .3 in omega arith
+
+-- three stays counted as moves
+pub stays-counted : (before after : List ℕ) (r : Sought) → SoughtRoute row barred 1 2 4 before after r → getD after 1 0 ≡ 4 → ⊥
+stays-counted before after r s wrong = let z : _≡_ {A = ℕ} 4 1 = sym wrong ∙ s .filled .levels 0 1 (omega arith) (omega arith) ∙ computed .3 in omega arith
+
+-- the digit of a crossing, the move to the right from cell 0, lost in the second plane
+pub digit-lost : (before after : List ℕ) (r : Sought) → SoughtRoute row (Cross 0 1 0 ∷ []) 0 1 1 before after r → getD after 6 0 ≡ 0 → ⊥
+unfolding digitsOf sumTo digit barsMove landing onGrid cellAt only barsWay anyOf
+digit-lost before after r s wrong = let z : _≡_ {A = ℕ} 0 8 = sym wrong ∙ s .filled .crossings 0 0 (omega arith) (omega arith) in omega arith
+
+-- a byte beyond the planes changed
+pub byte-beyond-changed : (before after : List ℕ) (r : Sought) → SoughtRoute row [] 0 1 1 before after r → getD before 12 0 ≡ 7 → getD after 12 0 ≡ 0 → ⊥
+byte-beyond-changed before after r s old wrong = let z : _≡_ {A = ℕ} 0 7 = sym wrong ∙ s .kept .rest 12 (omega arith) ∙ old in omega arith

@@ -1,155 +1,132 @@
--- How one layer is made of the next: a byte, which was a mark, becomes a level. Not a reader's business: the law `levelled-is-filled`
--- ties it to the best way on.
-use Prim.Native.Nat.{ℕ, zero, suc, _+_, _-_, _*_, _/_, _%_, min, _≤_, _<_}
+-- How a layer is made of the next, in two passes from some step back to 0. The first finds the steps at which the best ways end, the second,
+-- of the ways that end at `last`, the fewest moves; `moves` says which. Not a reader's business: the laws `ends-filled` and `moves-filled`
+-- tie it to the best way on.
+use Prim.Native.Nat.{ℕ, _+_, _-_, _*_, min, max, _≤_, _<_}
 use mathlib.Core.Path.{_≡_}
 use mathlib.Core.Bool.{Bool, true, false, not, _&&_, _||_}
 use mathlib.Core.List.{List, [], _∷_, map}
-use lib.Dec.{eqb, ltb}
+use mathlib.Core.Logic.{_⊎_}
+use lib.Dec.{eqb}
 use lib.ListN.{length, getD}
-use Rattle.lists.specs.Lists.{range, each, sumTo}
-use Rattle.lent.specs.Lent.{SameFrom}
+use Rattle.lent.specs.Made.{Made}
 use Rattle.hall.specs.Hall.{Hall, size, isOpen}
-use Rattle.hall.specs.Moves.{rowChanges, colChanges, rowAfter, colAfter, onGrid, landing, moveCount}
-use Rattle.routes.specs.Route.{stepCost}
-use Rattle.marks.specs.Marks.{digit}
-use Rattle.layers.specs.Layers.{crossingStarts}
+use Rattle.hall.specs.Moves.{rowChanges, colChanges}
+use Rattle.hall.specs.declared.Grid.{Grid}
+use Rattle.shuts.specs.Shuts.{turnsBy, shutIf, Floor}
+use Rattle.shuts.specs.Post.{lentHall}
 
--- the hall of the bytes that are lent
-abbrev pub lentHall : ℕ → ℕ → List ℕ → Hall
-lentHall width height bytes = record { width = width; height = height; bytes = bytes }
+-- ---- one cell
 
--- the level of cell w in the layer that starts at `next`
-unfoldable pub levelIn : List ℕ → ℕ → ℕ → ℕ
-levelIn layers next w = getD layers (next + w) 0 % 128
+-- one more, but 255 stays none
+unfoldable pub oneMore : ℕ → ℕ
+oneMore level = min level 254 + 1
 
--- ---- one byte
+-- where moves are counted, a move is one more
+unfoldable pub paidFor : Bool → ℕ → ℕ
+paidFor true level = oneMore level
+paidFor false level = level
+
+-- the entry that move m leads to from the entry `at`
+unfoldable pub nearEntry : ℕ → ℕ → ℕ → ℕ
+nearEntry width at m = at + width * getD rowChanges m 1 + getD colChanges m 1 - (width + 1)
+
+-- the bytes of shut moves that are asked: of moves sideways, and of all where some crossing is barred
+unfoldable pub shutBy : Bool → List ℕ → ℕ → ℕ → ℕ
+shutBy crossing shuts v m = elim ((eqb m 1 || eqb m 3) || crossing) [ true ↦ getD shuts (m * 256 + v) 0 | false ↦ 0 ]
+
+-- the level that move m leads to from cell v, whose entry in the half of the slate that is read is `at`
+unfoldable pub wayBy : Bool → List ℕ → List ℕ → ℕ → ℕ → ℕ → ℕ → ℕ
+wayBy crossing slate shuts width at v m = max (getD slate (nearEntry width at m) 0) (shutBy crossing shuts v m)
+
+-- the least of the ways on: by the stay, which is no move, or by one of the four moves
+unfoldable pub leastWay : Bool → Bool → List ℕ → List ℕ → ℕ → ℕ → ℕ → ℕ
+leastWay moves crossing slate shuts width at v =
+    min (min 255 (wayBy crossing slate shuts width at v 2))
+    (paidFor moves
+    (min (min (wayBy crossing slate shuts width at v 0) (wayBy crossing slate shuts width at v 1)) (min (wayBy crossing slate shuts width at v 3) (wayBy crossing slate shuts width at v 4))))
+
+unfoldable pub levelBy : Bool → Bool → List ℕ → List ℕ → ℕ → ℕ → ℕ → ℕ → ℕ
+levelBy moves crossing slate shuts width from v mark = max (max mark (getD shuts (1280 + v) 0)) (leastWay moves crossing slate shuts width (from + 16 + v) v)
+
+-- ---- one layer
+
+-- the slate has two halves of 288 bytes, each a layer between two pads of 16: one is read, the other written
+abbrev pub otherHalf : ℕ → ℕ
+otherHalf from = 288 - from
+
+unfoldable pub IsHalf : ℕ → Type 0
+IsHalf from = (from ≡ 0) ⊎ (from ≡ 288)
+
+-- no way leads from the pads, so none leads up from the first row or down from the last
+pub record Pads (n : ℕ) (slate : List ℕ) : Type 0 where
+  pub above : (from x : ℕ) → IsHalf from → x < 16 → getD slate (from + x) 0 ≡ 255
+  pub below : (from x : ℕ) → IsHalf from → 16 + n ≤ x → x < 288 → getD slate (from + x) 0 ≡ 255
+
+-- a half holds the same as a layer
+abbrev pub Copied : ℕ → ℕ → ℕ → List ℕ → List ℕ → Type 0
+Copied n base from slate layers = (v : ℕ) → v < n → getD slate (from + 16 + v) 0 ≡ getD layers (base + v) 0
+
+pub record LayerMade (moves crossing : Bool) (shuts : List ℕ) (width n base from : ℕ) (slate layers slate' layers' : List ℕ) : Type 0 where
+  pub layer : Made base n (levelBy moves crossing slate shuts width from) layers layers'
+  pub copied : Copied n base (otherHalf from) slate' layers'
+  pub wide : length slate' ≡ length slate
+  pub pads : Pads n slate → Pads n slate'
+
+-- ---- one pass
+
+-- what counts as a mark: in the second pass a cell from which the best way does not end at `last` is as good as barred
+unfoldable pub markFor : Bool → ℕ → ℕ → ℕ
+markFor false last byte = byte
+markFor true last byte = elim (eqb byte last) [ true ↦ 0 | false ↦ 255 ]
+
+-- the level of the goal at the step where the pass begins, if a carrier may stand there
+unfoldable pub arrives : Bool → ℕ → ℕ
+arrives false last = last
+arrives true last = 0
+
+unfoldable pub arrival : ℕ → ℕ → ℕ → ℕ → ℕ → ℕ
+arrival goal shut level v mark = elim (eqb v goal) [ true ↦ max level (max mark shut) | false ↦ 255 ]
+
+pub record ArrivalLaid (goal shut level n base : ℕ) (layers slate' layers' : List ℕ) : Type 0 where
+  pub layer : Made base n (arrival goal shut level) layers layers'
+  pub copied : Copied n base 0 slate' layers'
+  pub wide : length slate' ≡ 576
+  pub pads : Pads n slate'
+
+-- where all of the rest is on the goal, the way ended when it came there
+unfoldable pub rested : Bool → ℕ → ℕ → ℕ → ℕ → ℕ
+rested true goal t v level = level
+rested false goal t v level = elim (eqb v goal && eqb level (t + 1)) [ true ↦ t | false ↦ level ]
+
+pub record RestLaid (moves : Bool) (goal t n base from : ℕ) (slate layers slate' layers' : List ℕ) : Type 0 where
+  pub layer : Made base n (rested moves goal t) layers layers'
+  pub copied : Copied n base from slate' layers'
+  pub wide : length slate' ≡ length slate
+  pub pads : Pads n slate → Pads n slate'
 
 unfoldable pub leastOf : List ℕ → ℕ
-leastOf [] = 127
+leastOf [] = 255
 leastOf (c ∷ cs) = min c (leastOf cs)
 
--- the binary digits of a mark are the moves that a bar forbids
-unfoldable pub halves : ℕ → ℕ → ℕ
-halves zero mark = mark
-halves (suc m) mark = halves m mark / 2
+-- the level of a way from v by w
+unfoldable pub paidTo : Bool → ℕ → ℕ → ℕ → ℕ
+paidTo moves v w level = elim (moves && not (eqb v w)) [ true ↦ oneMore level | false ↦ level ]
 
-unfoldable pub odd : ℕ → Bool
-odd n = eqb (n % 2) 1
-
-unfoldable pub unless : Bool → List ℕ → List ℕ
-unless true ws = []
-unless false ws = ws
-
--- the cells that the other moves lead to
-unfoldable pub turnsBy : ℕ → ℕ → ℕ → ℕ → ℕ → List ℕ
-turnsBy width height row col mark = each (λ m. unless (odd (halves m mark)) (landing width height row col m)) (range 0 moveCount)
-
-unfoldable pub afterStep : Bool → ℕ → ℕ
-afterStep onGoal least = elim (eqb least 127) [ true ↦ 127 | false ↦ stepCost onGoal least ]
-
--- a cell from which there may be a way: open, and not barred
-unfoldable pub mayBegin : Hall → ℕ → ℕ → Bool
-mayBegin hall v mark = isOpen hall v && not (eqb mark 255)
-
--- the level of cell v with this mark, where `onward` gives the levels one step later; and at the horizon
-unfoldable pub madeLevel : Hall → ℕ → (ℕ → ℕ) → ℕ → ℕ → ℕ
-madeLevel hall goal onward v mark =
-    elim (mayBegin hall v mark) [
-      | true ↦ afterStep (eqb v goal) (leastOf (map onward (turnsBy (hall .width) (hall .height) (v / hall .width) (v % hall .width) mark)))
-      | false ↦ 127
+-- the least of the ways on from v, where `next` gives the levels one step later
+unfoldable pub leastOn : Hall → Bool → (ℕ → ℕ) → ℕ → ℕ → ℕ
+leastOn hall moves next v digits =
+    elim (isOpen hall v) [
+      | true ↦ leastOf (map (λ w. paidTo moves v w (next w)) (turnsBy (hall .width) (hall .height) v digits))
+      | false ↦ 255
     ]
 
-unfoldable pub lastLevel : Hall → ℕ → ℕ → ℕ → ℕ
-lastLevel hall goal v mark = elim (mayBegin hall v mark && eqb v goal) [ true ↦ 0 | false ↦ 127 ]
-
--- ---- one byte, as it is filled in a span
-
--- what no bar changes: 255 where a cell is closed, otherwise a binary digit for each move that leaves the grid
-
-unfoldable pub leaves : ℕ → ℕ → ℕ → ℕ → ℕ → Bool
-leaves width height row col m = not (onGrid width height (rowAfter row m) (colAfter col m))
-
-unfoldable pub edgeMark : ℕ → ℕ → ℕ → ℕ → ℕ
-edgeMark width height row col = sumTo moveCount (λ m. digit (leaves width height row col m) m)
-
-unfoldable pub floorMark : Hall → ℕ → ℕ
-floorMark hall v = elim (isOpen hall v) [ true ↦ edgeMark (hall .width) (hall .height) (v / hall .width) (v % hall .width) | false ↦ 255 ]
-
-pub record Floored (hall : Hall) (floor : List ℕ) : Type 0 where
-  pub room : size hall ≤ length floor
-  pub marks : (v : ℕ) → v < size hall → getD floor v 0 ≡ floorMark hall v
-
--- the least of f 0 .. f (n - 1)
-unfoldable pub leastTo : ℕ → (ℕ → ℕ) → ℕ
-leastTo zero f = 127
-leastTo (suc n) f = min (leastTo n f) (f n)
-
--- the entry that move m leads to from the entry `under`
-unfoldable pub nearEntry : ℕ → ℕ → ℕ → ℕ
-nearEntry width under m = under + width * getD rowChanges m 1 + getD colChanges m 1 - (width + 1)
-
-unfoldable pub orNone : Bool → ℕ → ℕ
-orNone true level = 127
-orNone false level = level
-
--- its level, unless the mark or the floor has the digit of the move
-unfoldable pub nearLevel : List ℕ → ℕ → ℕ → ℕ → ℕ → ℕ → ℕ
-nearLevel layers width under mark floor m = orNone (odd (halves m mark) || odd (halves m floor)) (getD layers (nearEntry width under m) 0 % 128)
-
--- the entries that the first `moves` moves lead to lie within the layers
-pub record NearWithin (width under moves : ℕ) (layers : List ℕ) : Type 0 where
-  pub wide : 1 ≤ width
-  pub narrow : width ≤ 16
-  pub above : width ≤ under
-  pub some : moves ≤ moveCount
-  pub inside : (m : ℕ) → m < moves → nearEntry width under m < length layers
-
--- the byte of a cell that is not the goal, of the entries that the first `moves` moves lead to
-unfoldable pub nearByte : List ℕ → ℕ → ℕ → ℕ → ℕ → ℕ → ℕ
-nearByte layers width under mark floor moves =
-    orNone (eqb mark 255 || eqb floor 255) (afterStep false (leastTo moves (nearLevel layers width under mark floor))) + crossingStarts mark
-
--- how many moves, in rising order of cells, of a cell in the last row lead to no entry past the next layer
-unfoldable pub bottomMoves : ℕ → ℕ → ℕ
-bottomMoves size v = elim (ltb (v + 1) size) [ true ↦ 4 | false ↦ 3 ]
-
--- the byte of the goal, made of what it were if the goal were elsewhere: where all of the rest is on it, nothing is added
-unfoldable pub restedByte : ℕ → ℕ
-restedByte byte = elim (eqb (byte % 128) 1) [ true ↦ byte - 1 | false ↦ byte ]
-
--- ---- many bytes
-
--- from base on, the bytes lo to hi - 1 are made of their marks, and no other has changed
-pub record Made (base lo hi : ℕ) (byte : ℕ → ℕ → ℕ) (before after : List ℕ) : Type 0 where
+-- a pass: the layers up to `last`, and no others, are made of their marks, each of the next; the digits stand in the second plane
+pub record Passed (hall : Hall) (moves : Bool) (goal plane last : ℕ) (before after : List ℕ) : Type 0 where
   pub long : length after ≡ length before
-  pub made : (v : ℕ) → lo ≤ v → v < hi → getD after (base + v) 0 ≡ byte v (getD before (base + v) 0)
-  pub under : (x : ℕ) → x < base + lo → getD after x 0 ≡ getD before x 0
-  pub over : (x : ℕ) → base + hi ≤ x → getD after x 0 ≡ getD before x 0
+  pub arrived : (v : ℕ) → v < size hall → getD after (last * size hall + v) 0 ≡ arrival goal (shutIf (not (isOpen hall goal))) (arrives moves last) v (markFor moves last (getD before (last * size hall + v) 0))
+  pub made : (t v : ℕ) → t < last → v < size hall → getD after (t * size hall + v) 0 ≡ rested moves goal t v (max (markFor moves last (getD before (t * size hall + v) 0)) (leastOn hall moves (λ w. getD after ((t + 1) * size hall + w) 0) v (getD before (plane + t * size hall + v) 0)))
+  pub over : (x : ℕ) → (last + 1) * size hall ≤ x → getD after x 0 ≡ getD before x 0
 
-unfoldable pub madeByte : Hall → ℕ → List ℕ → ℕ → ℕ → ℕ → ℕ
-madeByte hall goal layers next v mark = madeLevel hall goal (levelIn layers next) v mark + crossingStarts mark
-
-unfoldable pub lastByte : Hall → ℕ → ℕ → ℕ → ℕ
-lastByte hall goal v mark = lastLevel hall goal v mark + crossingStarts mark
-
--- a layer from cell `end` on, with the goal nowhere, where a row below what is still to be filled lies within the layers
-pub record FilledFrom (hall : Hall) (base : ℕ) (before : List ℕ) (end : ℕ) (after : List ℕ) : Type 0 where
-  pub within : end ≤ size hall
-  pub room : base + size hall + end + hall .width ≤ length before
-  pub made : Made base end (size hall) (madeByte hall (size hall) before (base + size hall)) before after
-
-unfoldable pub spanStart : ℕ → ℕ → ℕ
-spanStart width end = elim (ltb width end) [ true ↦ width | false ↦ 0 ]
-
--- the layers from step t to the horizon h, and no others, are made of their marks, each of the next
-pub record MadeFrom (hall : Hall) (goal h t : ℕ) (marks layers : List ℕ) : Type 0 where
-  pub long : length layers ≡ length marks
-  pub made : (s v : ℕ) → t ≤ s → s < h → v < size hall → getD layers (s * size hall + v) 0 ≡ madeByte hall goal layers ((s + 1) * size hall) v (getD marks (s * size hall + v) 0)
-  pub under : (x : ℕ) → x < t * size hall → getD layers x 0 ≡ getD marks x 0
-  pub over : (x : ℕ) → h * size hall ≤ x → getD layers x 0 ≡ getD marks x 0
-
--- all layers are made of their marks
-pub record Levelled (hall : Hall) (goal h : ℕ) (marks layers : List ℕ) : Type 0 where
-  pub last : (v : ℕ) → v < size hall → getD layers (h * size hall + v) 0 ≡ lastByte hall goal v (getD marks (h * size hall + v) 0)
-  pub made : (t v : ℕ) → t < h → v < size hall → getD layers (t * size hall + v) 0 ≡ madeByte hall goal layers ((t + 1) * size hall) v (getD marks (t * size hall + v) 0)
-  pub kept : SameFrom ((h + 1) * size hall) marks layers
+-- a pass over any hall whose floor this is
+abbrev pub PassedOn : Grid → List ℕ → Bool → ℕ → ℕ → ℕ → List ℕ → List ℕ → Type 0
+PassedOn grid floor moves goal plane last before after = (bytes : List ℕ) → Floor (lentHall grid bytes) floor → Passed (lentHall grid bytes) moves goal plane last before after

@@ -1,25 +1,31 @@
 // Has a carrier a route under its bars, and what does the best one cost? Worked out in the lent layers.
-// Rule 2 of document 01: the layers hold, for each step and cell, first a mark of the bars there (crate marks), then the cost of the
-// best way on, from the horizon back to step 0; crate writer then reads the route off forwards.
-use hall::Landing;
-use routes::Bar;
-ghost use Prim.Native.Nat.{_+_, _-_, _*_, _/_, _%_, min, _≤_, _<_};
-ghost use mathlib.Core.Bool.{false, _||_};
+// Document 02, P2: 'Among routes of least cost take those with the fewest moves'. The layers are filled twice, each time step by step back
+// to 0: first with the step at which the best way on from a cell ends; then, on the ways that end where the best route does, with their
+// fewest moves. Crate writer then reads the route off forwards.
+use hall::Grid;
+use marks::Bound;
+ghost use Prim.Native.Nat.{_+_, _-_, _*_, min, max, _≤_, _<_};
+ghost use mathlib.Core.Bool.{true, _||_};
 ghost use mathlib.Core.Path.{_≡_};
 ghost use lib.Dec.{eqb};
-ghost use lib.ListN.{length, getD, set};
+ghost use lib.ListN.{length, getD, set, replicate};
+ghost use Rattle.lent.specs.Made.{Made};
 ghost use Rattle.records.specs.Columns.{Falls};
-ghost use Rattle.marks.specs.Marks.{boundBy, digit};
+ghost use Rattle.marks.specs.Marks.{boundBy};
 ghost use Rattle.marks.specs.Post.{Layered};
-ghost use Rattle.layers.specs.Layers.{crossingStarts};
-ghost use Rattle.layers.specs.Post.{SoughtRoute};
-ghost use Rattle.layers.specs.Fill.{lentHall, leastTo, odd, afterStep, orNone, leaves, edgeMark, floorMark, nearEntry, nearLevel, NearWithin, nearByte, bottomMoves, restedByte, lastLevel, madeByte, lastByte, spanStart, Floored, Made, FilledFrom, MadeFrom, Levelled};
+ghost use Rattle.shuts.specs.Post.{lentHall, RightGrid};
+ghost use Rattle.layers.specs.Fill.{oneMore, paidFor, nearEntry, wayBy, leastWay, levelBy, otherHalf, IsHalf, Copied, LayerMade, markFor, arrives, ArrivalLaid, RestLaid, PassedOn};
+ghost use Rattle.layers.specs.Post.{Fillable, NoCrossing, SoughtRoute};
 
-// The level of a cell from which there is no way to the goal.
-pub const NO_WAY: u8 = 127;
+// No way.
+const NO_WAY: u8 = 255;
 
-// Added to the level where a barred crossing starts.
-pub const CROSSING: u8 = 128;
+// What a route is sought for.
+pub struct Trip {
+    pub start: usize,
+    pub goal: usize,
+    pub horizon: usize,
+}
 
 // What seeking a route finds: none, or one of this cost.
 pub enum Sought {
@@ -27,15 +33,17 @@ pub enum Sought {
     Cost(usize),
 }
 
-// ---- one cell
+// The greatest number of moves, and one more is none.
+const MOST: u8 = 254;
 
-// The level of an entry of the layers, whether or not a barred crossing starts there.
-pub fn level_at(layers: &[u8], at: usize) -> u8
-    requires { ⌜ at < length (now layers) ⌝ }
-    ensures { λ r. ⌜ r ≡ getD (now (layers .entry)) at 0 % 128 ⌝ }
-{
-    layers[at] % 128
-}
+// The slate: two halves, each a layer between two pads of the greatest width. So every cell has an entry for each of its moves.
+const PAD: usize = 16;
+
+const HALF: usize = 288;
+
+const SLATE: usize = 576;
+
+// ---- one cell
 
 fn lesser(a: u8, b: u8) -> u8
     ensures { λ r. ⌜ r ≡ min a b ⌝ }
@@ -43,406 +51,358 @@ fn lesser(a: u8, b: u8) -> u8
     if a <= b { a } else { b }
 }
 
-fn crossing(mark: u8) -> u8
-    ensures { λ r. ⌜ r ≡ crossingStarts mark ⌝ }
+fn greater(a: u8, b: u8) -> u8
+    ensures { λ r. ⌜ r ≡ max a b ⌝ }
 {
-    if mark == 0 {
-        return 0;
-    }
-    if mark == marks::BARRED {
-        return 0;
-    }
-    CROSSING
+    if a <= b { b } else { a }
 }
 
-// The level of a cell at the horizon.
-fn last_level(hall: &[u8], width: usize, height: usize, goal: usize, v: usize, mark: u8) -> u8
-    requires { ⌜ (width ≤ 16) × (height ≤ 16) ⌝ }
-    ensures { λ r. ⌜ r ≡ lastLevel (lentHall width height (now (hall .entry))) goal v mark ⌝ }
+// One more, but no way stays none.
+pub fn one_more(level: u8) -> u8
+    ensures { λ r. ⌜ r ≡ oneMore level ⌝ }
 {
-    if mark == marks::BARRED {
-        return NO_WAY;
+    lesser(level, MOST) + 1
+}
+
+// Where moves are counted, a move is one more.
+fn paid_for(level: u8, moves: bool) -> u8
+    ensures { λ r. ⌜ r ≡ paidFor moves level ⌝ }
+{
+    if moves {
+        return one_more(level);
     }
-    if v != goal {
-        return NO_WAY;
+    level
+}
+
+// The moves to the left and to the right, which leave the grid from the first and from the last column.
+fn sideways(m: usize) -> bool
+    ensures { λ r. ⌜ r ≡ (eqb m 1 || eqb m 3) ⌝ }
+{
+    m == 1 || m == 3
+}
+
+// The entry that move m leads to from the entry `at`.
+fn near(slate: &[u8; SLATE], width: usize, at: usize, m: usize) -> u8
+    requires { ⌜ (1 ≤ width) × (width ≤ 16) × (16 ≤ at) × (at + 16 < 576) × (m < 5) ⌝ }
+    ensures { λ r. ⌜ r ≡ getD (now (slate .entry)) (nearEntry width at m) 0 ⌝ }
+{
+    slate[at + width * hall::down(m) + hall::right(m) - (width + 1)]
+}
+
+// The level that a move leads to, if it is not shut. Up and down need no asking, since no way leads from the pads.
+fn way_by(
+    slate: &[u8; SLATE],
+    shuts: &[u8; shuts::SHUTS],
+    width: usize,
+    at: usize,
+    v: usize,
+    m: usize,
+    crossing: bool,
+) -> u8
+    requires { ⌜ (1 ≤ width) × (width ≤ 16) × (16 ≤ at) × (at + 16 < 576) × (v < 256) × (m < 5) ⌝ }
+    ensures { λ r. ⌜ r ≡ wayBy crossing (now (slate .entry)) (now (shuts .entry)) width at v m ⌝ }
+{
+    let level = near(slate, width, at, m);
+    if sideways(m) {
+        return greater(level, shuts[m * shuts::CELLS + v]);
     }
-    if hall::is_open(hall, width, height, v) {
+    if crossing {
+        return greater(level, shuts[m * shuts::CELLS + v]);
+    }
+    level
+}
+
+// The least of the ways by all moves, and none is worse than no way; a stay is no move. No cell asks where it stands, so that the compiler
+// may do many cells at once.
+fn least_way(
+    slate: &[u8; SLATE],
+    shuts: &[u8; shuts::SHUTS],
+    width: usize,
+    at: usize,
+    v: usize,
+    moves: bool,
+    crossing: bool,
+) -> u8
+    requires { ⌜ (1 ≤ width) × (width ≤ 16) × (16 ≤ at) × (at + 16 < 576) × (v < 256) ⌝ }
+    ensures { λ r. ⌜ r ≡ leastWay moves crossing (now (slate .entry)) (now (shuts .entry)) width at v ⌝ }
+{
+    let up = way_by(slate, shuts, width, at, v, 0, crossing);
+    let left = way_by(slate, shuts, width, at, v, 1, crossing);
+    let stay = way_by(slate, shuts, width, at, v, 2, crossing);
+    let right = way_by(slate, shuts, width, at, v, 3, crossing);
+    let down = way_by(slate, shuts, width, at, v, 4, crossing);
+    let away = lesser(lesser(up, left), lesser(right, down));
+    lesser(lesser(NO_WAY, stay), paid_for(away, moves))
+}
+
+// ---- one layer
+
+// The level of one cell, into the layers and into the other half of the slate.
+fn put_level(
+    shuts: &[u8; shuts::SHUTS],
+    width: usize,
+    v: usize,
+    from: usize,
+    to: usize,
+    moves: bool,
+    crossing: bool,
+    slate: &mut [u8; SLATE],
+    layers: &mut [u8],
+)
+    requires { ⌜ (1 ≤ width) × (width ≤ 16) × (v < 256) × (from ≤ 288) × (to < length (now layers)) ⌝ }
+    ensures { λ _. ⌜ (now (layers .exit) ≡ set (now (layers .entry)) to (levelBy moves crossing (now (slate .entry)) (now (shuts .entry)) width from v (getD (now (layers .entry)) to 0))) × (now (slate .exit) ≡ set (now (slate .entry)) (otherHalf from + 16 + v) (levelBy moves crossing (now (slate .entry)) (now (shuts .entry)) width from v (getD (now (layers .entry)) to 0))) ⌝ }
+{
+    let mark = greater(layers[to], shuts[shuts::CLOSED + v]);
+    let level = greater(
+        mark,
+        least_way(slate, shuts, width, from + PAD + v, v, moves, crossing),
+    );
+    layers[to] = level;
+    slate[HALF - from + PAD + v] = level;
+}
+
+fn fill_cells(
+    shuts: &[u8; shuts::SHUTS],
+    width: usize,
+    size: usize,
+    base: usize,
+    from: usize,
+    moves: bool,
+    crossing: bool,
+    slate: &mut [u8; SLATE],
+    layers: &mut [u8],
+)
+    requires { ⌜ (1 ≤ width) × (width ≤ 16) × (size ≤ 256) × (base + size ≤ length (now layers)) × (length (now slate) ≡ 576) × IsHalf from ⌝ }
+    ensures { λ _. ⌜ LayerMade moves crossing (now (shuts .entry)) width size base from (now (slate .entry)) (now (layers .entry)) (now (slate .exit)) (now (layers .exit)) ⌝ }
+{
+    let mut v = 0;
+    while v < size {
+        put_level(
+            shuts,
+            width,
+            v,
+            from,
+            base + v,
+            moves,
+            crossing,
+            slate,
+            layers,
+        );
+        v += 1;
+    }
+}
+
+// One layer. The kind of pass is a constant in each call, so that the compiler makes a loop for each.
+fn fill_layer(
+    shuts: &[u8; shuts::SHUTS],
+    width: usize,
+    size: usize,
+    base: usize,
+    from: usize,
+    moves: bool,
+    crossing: bool,
+    slate: &mut [u8; SLATE],
+    layers: &mut [u8],
+)
+    requires { ⌜ (1 ≤ width) × (width ≤ 16) × (size ≤ 256) × (base + size ≤ length (now layers)) × (length (now slate) ≡ 576) × IsHalf from ⌝ }
+    ensures { λ _. ⌜ LayerMade moves crossing (now (shuts .entry)) width size base from (now (slate .entry)) (now (layers .entry)) (now (slate .exit)) (now (layers .exit)) ⌝ }
+{
+    if moves {
+        fill_cells(
+            shuts,
+            width,
+            size,
+            base,
+            from,
+            true,
+            crossing,
+            slate,
+            layers,
+        );
+    } else {
+        fill_cells(
+            shuts,
+            width,
+            size,
+            base,
+            from,
+            false,
+            crossing,
+            slate,
+            layers,
+        );
+    }
+}
+
+// ---- one pass: of the steps at which the best ways end, or of the moves on those that end at `last`
+
+// Of the other ways nothing is asked any more: their cells are as good as barred.
+fn only_last(byte: u8, last: u8) -> u8
+    ensures { λ r. ⌜ r ≡ markFor true last byte ⌝ }
+{
+    if byte == last {
         return 0;
     }
     NO_WAY
 }
 
-// ---- a layer by spans of cells that are all filled alike
-
-// One more than the greatest cell number.
-const CELLS: usize = 256;
-
-// The digit of move m where it leaves the grid.
-fn edge_digit(width: usize, height: usize, row: usize, col: usize, m: usize) -> u8
-    requires { ⌜ (width ≤ 16) × (height ≤ 16) × (row < 256) × (col < 256) × (m < 5) ⌝ }
-    ensures { λ r. ⌜ r ≡ digit (leaves width height row col m) m ⌝ }
-{
-    let l = hall::landing_at(width, height, row, col, m);
-    match l {
-        Landing::Off => marks::digit_of(m),
-        Landing::Cell(_) => 0,
-    }
-}
-
-fn edge_mark(width: usize, height: usize, row: usize, col: usize) -> u8
-    requires { ⌜ (width ≤ 16) × (height ≤ 16) × (row < 256) × (col < 256) ⌝ }
-    ensures { λ r. ⌜ r ≡ edgeMark width height row col ⌝ }
-{
-    let mut mark = 0;
-    let mut m = 0;
-    while m < hall::MOVE_COUNT {
-        mark += edge_digit(width, height, row, col, m);
-        m += 1;
-    }
-    mark
-}
-
-fn floor_mark(hall: &[u8], width: usize, height: usize, v: usize) -> u8
-    requires { ⌜ (1 ≤ width) × (width ≤ 16) × (height ≤ 16) × (v < 256) ⌝ }
-    ensures { λ r. ⌜ r ≡ floorMark (lentHall width height (now (hall .entry))) v ⌝ }
-{
-    if hall::is_open(hall, width, height, v) {
-        return edge_mark(width, height, v / width, v % width);
-    }
-    marks::BARRED
-}
-
-// What no bar changes, worked out once a route: 'It never leaves the grid nor enters a closed cell.'
-fn lay_floor(hall: &[u8], width: usize, height: usize, floor: &mut [u8])
-    requires { ⌜ (1 ≤ width) × (width ≤ 16) × (height ≤ 16) × (width * height ≤ length (now floor)) ⌝ }
-    ensures { λ _. ⌜ Floored (lentHall width height (now (hall .entry))) (now (floor .exit)) ⌝ }
+fn bar_others(last: u8, base: usize, size: usize, layers: &mut [u8])
+    requires { ⌜ (size ≤ 256) × (base + size ≤ length (now layers)) ⌝ }
+    ensures { λ _. ⌜ Made base size (λ v byte. markFor true last byte) (now (layers .entry)) (now (layers .exit)) ⌝ }
 {
     let mut v = 0;
-    while v < width * height {
-        floor[v] = floor_mark(hall, width, height, v);
+    while v < size {
+        layers[base + v] = only_last(layers[base + v], last);
         v += 1;
     }
 }
 
-// The level that move m leads to from the entry `under`. It is read before the digits are asked, so that the compiler may do
-// many cells at once.
-fn near_level(layers: &[u8], width: usize, under: usize, m: usize, rest: u8, shut: u8) -> u8
-    requires { ⌜ (1 ≤ width) × (width ≤ 16) × (width ≤ under) × (m < 5) × (nearEntry width under m < length (now layers)) ⌝ }
-    ensures { λ r. ⌜ r ≡ orNone (odd rest || odd shut) (getD (now (layers .entry)) (nearEntry width under m) 0 % 128) ⌝ }
+// What counts as a mark in this pass.
+fn lay_marks(moves: bool, last: usize, base: usize, size: usize, layers: &mut [u8])
+    requires { ⌜ (last ≤ 63) × (size ≤ 256) × (base + size ≤ length (now layers)) ⌝ }
+    ensures { λ _. ⌜ Made base size (λ v byte. markFor moves last byte) (now (layers .entry)) (now (layers .exit)) ⌝ }
 {
-    let level = layers[under + width * hall::down(m) + hall::right(m) - (width + 1)] % 128;
-    if rest % 2 == 1 {
-        return NO_WAY;
+    if moves {
+        bar_others(last as u8, base, size, layers);
     }
-    if shut % 2 == 1 {
-        return NO_WAY;
-    }
-    level
 }
 
-// The least level that the first `moves` moves lead to.
-fn least_near(layers: &[u8], width: usize, under: usize, mark: u8, floor: u8, moves: usize) -> u8
-    requires { ⌜ NearWithin width under moves (now layers) ⌝ }
-    ensures { λ r. ⌜ r ≡ leastTo moves (nearLevel (now (layers .entry)) width under mark floor) ⌝ }
+// The level of the goal at the step where the pass begins.
+fn arrives(moves: bool, last: usize) -> u8
+    requires { ⌜ last ≤ 63 ⌝ }
+    ensures { λ r. ⌜ r ≡ arrives moves last ⌝ }
 {
-    let mut least = NO_WAY;
-    let mut rest = mark;
-    let mut shut = floor;
-    let mut m = 0;
-    while m < moves {
-        least = lesser(least, near_level(layers, width, under, m, rest, shut));
-        rest = rest / 2;
-        shut = shut / 2;
-        m += 1;
+    if moves {
+        return 0;
     }
-    least
+    last as u8
 }
 
-// The level of a cell that is not the goal.
-fn way_on(mark: u8, floor: u8, least: u8) -> u8
-    requires { ⌜ least ≤ 127 ⌝ }
-    ensures { λ r. ⌜ r ≡ orNone (eqb mark 255 || eqb floor 255) (afterStep false least) ⌝ }
+// The first half of the slate, into a layer.
+fn copy_half(slate: &[u8; SLATE], base: usize, size: usize, layers: &mut [u8])
+    requires { ⌜ (size ≤ 256) × (base + size ≤ length (now layers)) ⌝ }
+    ensures { λ _. ⌜ Made base size (λ v byte. getD (now (slate .entry)) (16 + v) 0) (now (layers .entry)) (now (layers .exit)) ⌝ }
 {
-    if mark == marks::BARRED {
-        return NO_WAY;
+    let mut v = 0;
+    while v < size {
+        layers[base + v] = slate[PAD + v];
+        v += 1;
     }
-    if floor == marks::BARRED {
-        return NO_WAY;
-    }
-    if least == NO_WAY {
-        return NO_WAY;
-    }
-    least + 1
 }
 
-fn near_byte(layers: &[u8], width: usize, under: usize, mark: u8, floor: u8, moves: usize) -> u8
-    requires { ⌜ NearWithin width under moves (now layers) ⌝ }
-    ensures { λ r. ⌜ r ≡ nearByte (now (layers .entry)) width under mark floor moves ⌝ }
+// The layer at the step where the pass begins: a way ends there only on the goal, if a carrier may stand on it.
+fn lay_arrival(
+    goal: usize,
+    shut: u8,
+    level: u8,
+    base: usize,
+    size: usize,
+    slate: &mut [u8; SLATE],
+    layers: &mut [u8],
+)
+    requires { ⌜ (goal < size) × (size ≤ 256) × (base + size ≤ length (now layers)) ⌝ }
+    requires { ⌜ now slate ≡ replicate 576 255 ⌝ }
+    ensures { λ _. ⌜ ArrivalLaid goal shut level size base (now (layers .entry)) (now (slate .exit)) (now (layers .exit)) ⌝ }
 {
-    let least = least_near(layers, width, under, mark, floor, moves);
-    way_on(mark, floor, least) + crossing(mark)
+    slate[PAD + goal] = greater(level, greater(layers[base + goal], shut));
+    copy_half(slate, base, size, layers);
 }
 
-fn fill_near(width: usize, under: usize, at: usize, floor: u8, moves: usize, layers: &mut [u8])
-    requires { ⌜ NearWithin width under moves (now layers) × (at < length (now layers)) ⌝ }
-    ensures { λ _. ⌜ now (layers .exit) ≡ set (now (layers .entry)) at (nearByte (now (layers .entry)) width under (getD (now (layers .entry)) at 0) floor moves) ⌝ }
-{
-    let byte = near_byte(layers, width, under, layers[at], floor, moves);
-    layers[at] = byte;
-}
-
-// The cells from one up to another, with the goal nowhere.
-fn fill_span(
-    hall: &[u8],
-    floor: &[u8],
-    width: usize,
-    height: usize,
+// On the goal, where all of the rest is on it too, the way ended when it came there.
+fn rest_end(
+    moves: bool,
+    goal: usize,
+    t: usize,
+    size: usize,
     base: usize,
     from: usize,
-    to: usize,
+    slate: &mut [u8; SLATE],
     layers: &mut [u8],
 )
-    requires { ⌜ (1 ≤ width) × (width ≤ 16) × (height ≤ 16) × (from ≤ to) × (to ≤ width * height) × (base + width * height + to + width ≤ length (now layers)) × (width ≤ width * height) ⌝ }
-    requires { ⌜ Floored (lentHall width height (now hall)) (now floor) ⌝ }
-    ensures { λ _. ⌜ Made base from to (madeByte (lentHall width height (now (hall .entry))) (width * height) (now (layers .entry)) (base + width * height)) (now (layers .entry)) (now (layers .exit)) ⌝ }
+    requires { ⌜ (goal < size) × (size ≤ 256) × (t < 63) × (base + size ≤ length (now layers)) × (length (now slate) ≡ 576) × IsHalf from ⌝ }
+    requires { ⌜ Copied size base from (now slate) (now layers) ⌝ }
+    ensures { λ _. ⌜ RestLaid moves goal t size base from (now (slate .entry)) (now (layers .entry)) (now (slate .exit)) (now (layers .exit)) ⌝ }
 {
-    let size = width * height;
-    let mut v = from;
-    while v < to {
-        fill_near(
-            width,
-            base + size + v,
-            base + v,
-            floor[v],
-            hall::MOVE_COUNT,
-            layers,
-        );
-        v += 1;
-    }
-}
-
-// The moves are in rising order of cells: so many come before the one that leads down, and before the one to the right.
-const BEFORE_DOWN: usize = 4;
-
-const BEFORE_RIGHT: usize = 3;
-
-// How many moves of a cell in the last row lead to no entry past the next layer: not down, and from the last cell not to the right.
-fn bottom_moves(size: usize, v: usize) -> usize
-    requires { ⌜ v < size ⌝ }
-    ensures { λ r. ⌜ r ≡ bottomMoves size v ⌝ }
-{
-    if v + 1 < size {
-        return BEFORE_DOWN;
-    }
-    BEFORE_RIGHT
-}
-
-// The last row, with the goal nowhere, where no entry past the next layer is read. A move that would lead there leaves the grid.
-fn fill_bottom(
-    hall: &[u8],
-    floor: &[u8],
-    width: usize,
-    height: usize,
-    base: usize,
-    layers: &mut [u8],
-)
-    requires { ⌜ (1 ≤ width) × (width ≤ 16) × (1 ≤ height) × (height ≤ 16) × (base + width * height + width * height ≤ length (now layers)) ⌝ }
-    requires { ⌜ Floored (lentHall width height (now hall)) (now floor) ⌝ }
-    ensures { λ _. ⌜ Made base (width * height - width) (width * height) (madeByte (lentHall width height (now (hall .entry))) (width * height) (now (layers .entry)) (base + width * height)) (now (layers .entry)) (now (layers .exit)) ⌝ }
-{
-    let size = width * height;
-    let mut v = size - width;
-    while v < size {
-        let moves = bottom_moves(size, v);
-        fill_near(width, base + size + v, base + v, floor[v], moves, layers);
-        v += 1;
-    }
-}
-
-// Where the lent layers end with the next layer, no entry lies below its last row, and this row is filled apart. The cells from here on
-// are filled then.
-fn fill_end(
-    hall: &[u8],
-    floor: &[u8],
-    width: usize,
-    height: usize,
-    base: usize,
-    layers: &mut [u8],
-) -> usize
-    requires { ⌜ (1 ≤ width) × (width ≤ 16) × (1 ≤ height) × (height ≤ 16) × (base + width * height + width * height ≤ length (now layers)) ⌝ }
-    requires { ⌜ Floored (lentHall width height (now hall)) (now floor) ⌝ }
-    ensures { λ r. ⌜ FilledFrom (lentHall width height (now (hall .entry))) base (now (layers .entry)) r (now (layers .exit)) ⌝ }
-{
-    let size = width * height;
-    if base + size + size + width <= layers.len() {
-        return size;
-    }
-    fill_bottom(hall, floor, width, height, base, layers);
-    size - width
-}
-
-// Where the span of cells that ends here starts: all rows but the first, then the first. What is read for a span lies apart from what is
-// written, so that the compiler may do many cells at once.
-fn span_start(width: usize, end: usize) -> usize
-    ensures { λ r. ⌜ r ≡ spanStart width end ⌝ }
-{
-    if width < end {
-        return width;
-    }
-    0
-}
-
-// All rows, with the goal nowhere.
-fn fill_rows(hall: &[u8], floor: &[u8], width: usize, height: usize, base: usize, layers: &mut [u8])
-    requires { ⌜ (1 ≤ width) × (width ≤ 16) × (1 ≤ height) × (height ≤ 16) × (base + width * height + width * height ≤ length (now layers)) ⌝ }
-    requires { ⌜ Floored (lentHall width height (now hall)) (now floor) ⌝ }
-    ensures { λ _. ⌜ Made base 0 (width * height) (madeByte (lentHall width height (now (hall .entry))) (width * height) (now (layers .entry)) (base + width * height)) (now (layers .entry)) (now (layers .exit)) ⌝ }
-{
-    let mut end = fill_end(hall, floor, width, height, base, layers);
-    while 0 < end {
-        let from = span_start(width, end);
-        fill_span(hall, floor, width, height, base, from, end, layers);
-        end = from;
-    }
-}
-
-// On the goal itself, nothing is added where all of the rest is on it.
-fn rested(byte: u8) -> u8
-    ensures { λ r. ⌜ r ≡ restedByte byte ⌝ }
-{
-    if byte % 128 == 1 {
-        return byte - 1;
-    }
-    byte
-}
-
-// A layer before the horizon, of the one that follows it.
-fn fill_layer(
-    hall: &[u8],
-    floor: &[u8],
-    width: usize,
-    height: usize,
-    goal: usize,
-    base: usize,
-    layers: &mut [u8],
-)
-    requires { ⌜ (1 ≤ width) × (width ≤ 16) × (1 ≤ height) × (height ≤ 16) × (base + width * height + width * height ≤ length (now layers)) ⌝ }
-    requires { ⌜ Floored (lentHall width height (now hall)) (now floor) ⌝ }
-    ensures { λ _. ⌜ Made base 0 (width * height) (madeByte (lentHall width height (now (hall .entry))) goal (now (layers .entry)) (base + width * height)) (now (layers .entry)) (now (layers .exit)) ⌝ }
-{
-    fill_rows(hall, floor, width, height, base, layers);
-    if width * height <= goal {
+    if moves {
         return;
     }
-    layers[base + goal] = rested(layers[base + goal]);
-}
-
-fn last_cell(
-    hall: &[u8],
-    width: usize,
-    height: usize,
-    goal: usize,
-    base: usize,
-    v: usize,
-    layers: &mut [u8],
-)
-    requires { ⌜ (width ≤ 16) × (height ≤ 16) × (v < width * height) × (base + width * height ≤ length (now layers)) ⌝ }
-    ensures { λ _. ⌜ now (layers .exit) ≡ set (now (layers .entry)) (base + v) (lastByte (lentHall width height (now (hall .entry))) goal v (getD (now (layers .entry)) (base + v) 0)) ⌝ }
-{
-    let at = base + v;
-    let mark = layers[at];
-    layers[at] = last_level(hall, width, height, goal, v, mark) + crossing(mark);
-}
-
-// The layer at the horizon.
-fn fill_last(hall: &[u8], width: usize, height: usize, goal: usize, base: usize, layers: &mut [u8])
-    requires { ⌜ (width ≤ 16) × (height ≤ 16) × (base + width * height ≤ length (now layers)) ⌝ }
-    ensures { λ _. ⌜ Made base 0 (width * height) (lastByte (lentHall width height (now (hall .entry))) goal) (now (layers .entry)) (now (layers .exit)) ⌝ }
-{
-    let mut v = width * height;
-    while 0 < v {
-        v -= 1;
-        last_cell(hall, width, height, goal, base, v, layers);
+    if layers[base + goal] != (t + 1) as u8 {
+        return;
     }
+    layers[base + goal] = t as u8;
+    slate[from + PAD + goal] = t as u8;
 }
 
-// ---- all layers
-
-// The layers before the horizon, step by step back to 0.
+// A pass from step `last` back to 0: without `moves` the first, for the steps at which the best ways end, with them the second, for the
+// moves on the ways that end at `last`.
 fn fill_back(
-    hall: &[u8],
-    floor: &[u8],
-    width: usize,
-    height: usize,
-    goal: usize,
-    h: usize,
+    floor: &[u8; shuts::SHUTS],
+    grid: Grid,
+    trip: Trip,
+    last: usize,
+    moves: bool,
+    crossing: bool,
     layers: &mut [u8],
 )
-    requires { ⌜ (1 ≤ width) × (width ≤ 16) × (1 ≤ height) × (height ≤ 16) × (h ≤ 63) × ((h + 1) * (width * height) ≤ length (now layers)) ⌝ }
-    requires { ⌜ Floored (lentHall width height (now hall)) (now floor) ⌝ }
-    ensures { λ _. ⌜ MadeFrom (lentHall width height (now (hall .entry))) goal h 0 (now (layers .entry)) (now (layers .exit)) ⌝ }
+    requires { ⌜ Fillable grid trip last (now layers) × NoCrossing crossing (grid .width * grid .height) (trip .horizon) (now layers) ⌝ }
+    ensures { λ _. ⌜ PassedOn grid (now (floor .entry)) moves (trip .goal) ((trip .horizon + 1) * (grid .width * grid .height)) last (now (layers .entry)) (now (layers .exit)) ⌝ }
 {
-    let mut t = h;
+    let size = grid.width * grid.height;
+    let plane = (trip.horizon + 1) * size;
+    let goal = trip.goal;
+    let mut shuts = *floor;
+    let mut slate = [NO_WAY; SLATE];
+    let first = last * size;
+    lay_marks(moves, last, first, size, layers);
+    let shut = shuts[shuts::CLOSED + goal];
+    let level = arrives(moves, last);
+    lay_arrival(goal, shut, level, first, size, &mut slate, layers);
+    let mut from = 0;
+    let mut t = last;
     while 0 < t {
         t -= 1;
+        let base = t * size;
+        shuts::lay_shuts(crossing, floor, layers, plane + base, size, &mut shuts);
+        lay_marks(moves, last, base, size, layers);
         fill_layer(
-            hall,
-            floor,
-            width,
-            height,
-            goal,
-            t * (width * height),
+            &shuts,
+            grid.width,
+            size,
+            base,
+            from,
+            moves,
+            crossing,
+            &mut slate,
             layers,
         );
+        from = HALF - from;
+        rest_end(moves, goal, t, size, base, from, &mut slate, layers);
     }
 }
 
-// From marks to levels.
-fn fill(hall: &[u8], width: usize, height: usize, goal: usize, h: usize, layers: &mut [u8])
-    requires { ⌜ (1 ≤ width) × (width ≤ 16) × (1 ≤ height) × (height ≤ 16) × (h ≤ 63) × ((h + 1) * (width * height) ≤ length (now layers)) ⌝ }
-    ensures { λ _. ⌜ Levelled (lentHall width height (now (hall .entry))) goal h (now (layers .entry)) (now (layers .exit)) ⌝ }
-{
-    let mut floor = [0; CELLS];
-    lay_floor(hall, width, height, &mut floor);
-    fill_last(hall, width, height, goal, h * (width * height), layers);
-    fill_back(hall, &floor, width, height, goal, h, layers);
-}
-
-// Document 01, rule 2: whether a carrier has a route under the bars that bind it at a node and one new bar, and its least cost. The layers
-// then hold the levels from which `writer::write_route` reads the route.
+// Rule 2: whether a carrier has a route under the bars that bind it at a node and a new one, and its least cost. The layers then hold
+// what is wanted to read the route off (`writer::write_route`).
 pub fn seek_route(
     hall: &[u8],
-    width: usize,
-    height: usize,
-    start: usize,
-    goal: usize,
-    h: usize,
+    grid: Grid,
+    trip: Trip,
     columns: &[u16],
-    capacity: usize,
-    node: usize,
-    carrier: usize,
-    bar: Bar,
+    bound: Bound,
     layers: &mut [u8],
 ) -> Sought
-    requires { ⌜ Layered width height h (now layers) × (start < width * height) ⌝ }
-    requires { ⌜ Falls capacity (now columns) node ⌝ }
-    ensures { λ r. ⌜ SoughtRoute (lentHall width height (now (hall .entry))) (boundBy capacity (now (columns .entry)) node carrier bar) start goal h (now (layers .entry)) (now (layers .exit)) r ⌝ }
+    requires { ⌜ RightGrid grid (now hall) × Layered (grid .width) (grid .height) (trip .horizon) (now layers) ⌝ }
+    requires { ⌜ (trip .start < grid .width * grid .height) × (trip .goal < grid .width * grid .height) × Falls (bound .capacity) (now columns) (bound .node) ⌝ }
+    ensures { λ r. ⌜ SoughtRoute (lentHall grid (now (hall .entry))) (boundBy (bound .capacity) (now (columns .entry)) (bound .node) (bound .carrier) (bound .bar)) (trip .start) (trip .goal) (trip .horizon) (now (layers .entry)) (now (layers .exit)) r ⌝ }
 {
-    marks::mark_all(
-        layers,
-        width,
-        height,
-        h,
-        columns,
-        capacity,
-        node,
-        carrier,
-        bar,
-    );
-    fill(hall, width, height, goal, h, layers);
-    let level = level_at(layers, start);
-    if level == NO_WAY {
+    let crossing = marks::mark_all(layers, grid, trip.horizon, columns, bound);
+    let mut floor = [0; shuts::SHUTS];
+    shuts::lay_floor(hall, grid, &mut floor);
+    fill_back(&floor, grid, trip, trip.horizon, false, crossing, layers);
+    let start = trip.start;
+    let end = layers[start];
+    if end == NO_WAY {
         return Sought::Nothing;
     }
-    Sought::Cost(level as usize)
+    fill_back(&floor, grid, trip, end as usize, true, crossing, layers);
+    Sought::Cost(end as usize)
 }

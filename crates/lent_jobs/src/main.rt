@@ -108,7 +108,7 @@ fn show_checks(
     show_number(b"meetings ", meetings.number);
 }
 
-// Tables of the greatest lengths for N = 8.
+// Tables of the greatest lengths for N = 16.
 fn show(
     hall: &[u8],
     width: usize,
@@ -118,9 +118,9 @@ fn show(
     h: usize,
     n: usize,
 ) {
-    let mut columns = [0u16; 64];
-    let mut plans = [0u8; 4096];
-    let mut layers = [0u8; 16384];
+    let mut columns = [0u16; 128];
+    let mut plans = [0u8; 8192];
+    let mut layers = [0u8; 32768];
     let mut output = [0u8; 512];
     let answer = plan_two(
         hall,
@@ -166,9 +166,12 @@ fn main() {
     show(b"...", 3, 1, pair(0, 1, 1, 2), 1, 2, 8);
     // Width 4, height 2, 6→2 and 0→3, k 0, H 3.
     show(b"........", 4, 2, pair(6, 2, 0, 3), 0, 3, 8);
-    // Document 02, P1: one start, one goal, both, and a table too short: with N 9 the columns need 72 entries, and 64 are lent.
+    // Document 02, P1: one start, one goal, both, and a table too short: with N 17 the columns need 136 entries, and 128 are lent.
     show(b"...", 3, 1, pair(0, 1, 0, 2), 0, 2, 8);
     show(b"...", 3, 1, pair(0, 2, 1, 2), 0, 2, 8);
     show(b"...", 3, 1, pair(0, 2, 0, 2), 0, 2, 8);
-    show(b"...", 3, 1, pair(0, 1, 1, 2), 0, 1, 9);
+    show(b"...", 3, 1, pair(0, 1, 1, 2), 0, 1, 17);
+    // Document 02, P2: 4 by 4, 4→7 and 1→13, and 5 by 3, 5→9 and 2→12, k 2, H 10.
+    show(b"................", 4, 4, pair(4, 7, 1, 13), 2, 10, 16);
+    show(b"...............", 5, 3, pair(5, 9, 2, 12), 2, 10, 16);
 }

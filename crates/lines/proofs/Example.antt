@@ -11,7 +11,7 @@ use Rattle.job.specs.Job.{wrongLimits, wrongCapacity, wrongCount, wrongEnds, fi
 use Rattle.job.specs.Verdict.{endsVerdict, sharedVerdict, judgeWith, ifAccepted}
 use Rattle.routes.specs.Route.{routeIn, stepCost, cost}
 use Rattle.routes.specs.Bars.{barsFor, barsCell, barsWay, mayStand, mayTurn}
-use Rattle.routes.specs.Best.{cheaper, better, bestOf, inFront, bestWay, bestRoute}
+use Rattle.routes.specs.Best.{moved, moves, outdone, preferred, better, bestOf, inFront, bestWay, bestRoute}
 use Rattle.clashes.specs.Chosen.{written, meets, swaps, happens, overPairs, atStep, candidates, orClear, chosen}
 use Rattle.search.specs.Search.{prefer, takeLeast, run, search}
 use Rattle.tree.specs.Plan.{total}
@@ -36,7 +36,7 @@ printedText =
     ∷ 99 ∷ 97 ∷ 114 ∷ 114 ∷ 105 ∷ 101 ∷ 114 ∷ 32 ∷ 49 ∷ 32 ∷ 99 ∷ 111 ∷ 115 ∷ 116 ∷ 32 ∷ 50 ∷ 32 ∷ 99 ∷ 101 ∷ 108 ∷ 108 ∷ 115 ∷ 32 ∷ 49 ∷ 32 ∷ 52 ∷ 32 ∷ 55 ∷ 10 ∷ []
 
 pub printed-book-text : programText printedBook ≡ printedText
-unfolding range sumTo only keep anyOf firstOf each wrongSide wrongGrid wrongByte wrongBytes isOpen onGrid cellAt landing reachFrom reach wrongLimits wrongCapacity wrongCount wrongEnds firstWrong share pairs firstShared refuseIf endsVerdict sharedVerdict judgeWith ifAccepted routeIn stepCost cost barsFor barsCell barsWay mayStand mayTurn cheaper better bestOf inFront bestWay bestRoute written meets swaps happens overPairs atStep candidates orClear chosen prefer takeLeast run search total firstShort zeroed workedOn planWritten withPlan routeUnder withRoute freeRoutes rootOf root nodeSum clashOf isClear nodeClear barOne barTwo childWith child kidsFor kids tree searched ifLong enough planned lowHigh entryKind entryOffset entryLength entryBody noContents wrongKinds wrongBodies wrongLengths bookVerdict noKind ifGood askedVerdict bodyOf widthIn heightIn hallIn delayIn horizonIn digitsWithin digits numberLine cellsText costLine carrierLine carrierLines planText restText toldText resultText bookText programText
+unfolding range sumTo only keep anyOf firstOf each wrongSide wrongGrid wrongByte wrongBytes isOpen onGrid cellAt landing reachFrom reach wrongLimits wrongCapacity wrongCount wrongEnds firstWrong share pairs firstShared refuseIf endsVerdict sharedVerdict judgeWith ifAccepted routeIn stepCost cost barsFor barsCell barsWay mayStand mayTurn moved moves outdone preferred better bestOf inFront bestWay bestRoute written meets swaps happens overPairs atStep candidates orClear chosen prefer takeLeast run search total firstShort zeroed workedOn planWritten withPlan routeUnder withRoute freeRoutes rootOf root nodeSum clashOf isClear nodeClear barOne barTwo childWith child kidsFor kids tree searched ifLong enough planned lowHigh entryKind entryOffset entryLength entryBody noContents wrongKinds wrongBodies wrongLengths bookVerdict noKind ifGood askedVerdict bodyOf widthIn heightIn hallIn delayIn horizonIn digitsWithin digits numberLine cellsText costLine carrierLine carrierLines planText restText toldText resultText bookText programText
 printed-book-text = refl
 
 -- ---- P1: eight cells in a row, eight carriers of which 0 and 1 share a goal, and the last starts on a given cell

@@ -34,11 +34,11 @@ long-enough job accepted =
     let facts = accepted-facts (wrongCapacity 128) job accepted in
     let plan : planLength job ≤ 512 = plan-small (facts .countMost) (facts .horizonMost) in
     let plans : plansLength job 128 ≤ 65536 = mul-le-mul (le-refl 128) plan in
-    let layers : layersLength job ≤ 16384 = layers-small (facts .horizonMost) (area-small (facts .widthMost) (facts .heightMost)) in
+    let layers : layersLength job ≤ 32768 = omega (arith, layers-small (facts .horizonMost) (area-small (facts .widthMost) (facts .heightMost))) in
     record {
       columns = omega (arith, length-replicate {A = ℕ} 1024 0);
       plans = omega (arith, length-replicate {A = ℕ} 65536 0);
-      layers = omega (arith, length-replicate {A = ℕ} 16384 0);
+      layers = omega (arith, length-replicate {A = ℕ} 32768 0);
       output = omega (arith, length-replicate {A = ℕ} 512 0);
     }
 

@@ -11,10 +11,10 @@ use Rattle.book.specs.declared.BookVerdict.the-variants.{Good}
 use Rattle.tables.specs.Tables.{Tables}
 use Rattle.lines.specs.Printed.{jobIn, bookText}
 
--- the tables that the program lends, all zeros: 8 columns of N records; N plans of 8 carriers and 64 steps; 64 layers of 256 cells; one
--- plan
+-- the tables that the program lends, all zeros: 8 columns of N records; N plans of 8 carriers and 64 steps; twice 64 layers of 256
+-- cells; one plan
 abbrev pub programTables : Tables
-programTables = record { columns = replicate 1024 0; plans = replicate 65536 0; layers = replicate 16384 0; output = replicate 512 0 }
+programTables = record { columns = replicate 1024 0; plans = replicate 65536 0; layers = replicate 32768 0; output = replicate 512 0 }
 
 -- 'uses N = 128 and prints'
 unfoldable pub programText : List ℕ → List ℕ

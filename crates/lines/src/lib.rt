@@ -30,8 +30,8 @@ const COLUMNS: usize = 1024;
 // N plans of 8 carriers and 64 steps;
 const PLANS: usize = 65536;
 
-// 64 layers of 256 cells;
-const LAYERS: usize = 16384;
+// twice 64 layers of 256 cells;
+const LAYERS: usize = 32768;
 
 // one plan.
 const OUTPUT: usize = 512;

@@ -1,5 +1,5 @@
--- Setting a binary digit of a mark. A mark is 255, which has every digit, or the sum of five digits 1, 2, 4, 8, 16: there the digit
--- of each move is read off by a division, and setting it adds its weight where it was 0. Assumes nothing.
+-- Setting a binary digit of a sum of the five digits 1, 2, 4, 8, 16: the digit of each move is read off by a division, and setting it
+-- adds its weight where it was 0. Assumes nothing.
 use Prim.Native.Nat.{ℕ, zero, suc, _+_, _/_, _%_, _^_, _<_}
 use native.Mathlib.Omega.{arith}
 use mathlib.Core.Path.{_≡_, refl, ap, _∙_}
@@ -8,17 +8,11 @@ use mathlib.Core.List.{[], _∷_}
 use borrow.Author.Tests.{eqb-true, eqb-false}
 use lib.Dec.{eqb}
 use lib.ListN.{getD}
-use Rattle.lists.specs.Lists.{sumTo}
 use Rattle.lists.proofs.Sums.{sum-same, sum-changed}
 use Rattle.hall.specs.Moves.{moveCount}
 use Rattle.marks.specs.Marks.{digit}
 use Rattle.marks.specs.Post.{withDigit}
 use Rattle.marks.proofs.FiveDigits.{bit, digitsTo, digit-is}
-
--- a mark by what is barred: the cell, or the moves
-unfoldable pub markFrom : Bool → (ℕ → Bool) → ℕ
-markFrom true moves = 255
-markFrom false moves = sumTo moveCount (λ m. digit (moves m) m)
 
 digit-set-is : (x y m : ℕ) → (x / 2 ^ m % 2 ≡ 0 → y ≡ x + 2 ^ m) → ((x / 2 ^ m % 2 ≡ 0 → ⊥) → y ≡ x) → y ≡ withDigit x m
 unfolding withDigit
@@ -34,15 +28,6 @@ pub record SetAt (f g : ℕ → Bool) (r : ℕ) : Type 0 where
   pub there : g r ≡ true
   pub elsewhere : (m : ℕ) → m < moveCount → (m ≡ r → ⊥) → g m ≡ f m
 
-whole-set : (r : ℕ) → r < moveCount → 255 ≡ withDigit 255 r
-unfolding withDigit
-whole-set zero h = refl
-whole-set (suc zero) h = refl
-whole-set (suc (suc zero)) h = refl
-whole-set (suc (suc (suc zero))) h = refl
-whole-set (suc (suc (suc (suc zero)))) h = refl
-whole-set (suc (suc (suc (suc (suc r))))) h = absurd (omega arith)
-
 module _ (f g : ℕ → Bool) (r : ℕ) (inside : r < moveCount) (s : SetAt f g r) where
   digit-there-now : digit (g r) r ≡ 2 ^ r
   unfolding digit
@@ -53,23 +38,16 @@ module _ (f g : ℕ → Bool) (r : ℕ) (inside : r < moveCount) (s : SetAt f g 
       sum-changed moveCount r (λ m. digit (f m) m) (λ m. digit (g m) m) inside (λ m l n. ap (λ (b : Bool). digit b m) (s .elsewhere m l n))
       ∙ ap (λ d. digitsTo f moveCount + d) digit-there-now
 
-  moves-set : digitsTo g moveCount ≡ withDigit (digitsTo f moveCount) r
+  pub digits-set : digitsTo g moveCount ≡ withDigit (digitsTo f moveCount) r
   unfolding bit digit
-  moves-set = go (f r) (digit-is f r inside) one-more
+  digits-set = go (f r) (digit-is f r inside) one-more
     where
       go : (b : Bool) → digitsTo f moveCount / 2 ^ r % 2 ≡ bit b → digitsTo g moveCount + digit b r ≡ digitsTo f moveCount + 2 ^ r → digitsTo g moveCount ≡ withDigit (digitsTo f moveCount) r
       go true e k = digit-set-is (digitsTo f moveCount) (digitsTo g moveCount) r (λ z. omega (arith, e, z)) (λ n. omega (arith, k))
       go false e k = digit-set-is (digitsTo f moveCount) (digitsTo g moveCount) r (λ z. omega (arith, k)) (λ n. absurd (n e))
 
-pub mark-set : (cell : Bool) (f g : ℕ → Bool) (r : ℕ) → r < moveCount → SetAt f g r → markFrom cell g ≡ withDigit (markFrom cell f) r
-unfolding markFrom
-mark-set true f g r h s = whole-set r h
-mark-set false f g r h s = moves-set f g r h s
-
-pub mark-kept : (cell : Bool) (f g : ℕ → Bool) → ((m : ℕ) → m < moveCount → g m ≡ f m) → markFrom cell g ≡ markFrom cell f
-unfolding markFrom
-mark-kept true f g e = refl
-mark-kept false f g e = sum-same moveCount (λ m. digit (g m) m) (λ m. digit (f m) m) (λ m h. ap (λ (b : Bool). digit b m) (e m h))
+pub digits-kept : (f g : ℕ → Bool) → ((m : ℕ) → m < moveCount → g m ≡ f m) → digitsTo g moveCount ≡ digitsTo f moveCount
+digits-kept f g e = sum-same moveCount (λ m. digit (g m) m) (λ m. digit (f m) m) (λ m h. ap (λ (b : Bool). digit b m) (e m h))
 
 -- ---- as the code does it, with the weight d of the digit
 

@@ -1,134 +1,171 @@
 -- Marking by parts: nothing marked at first, some bars more by each marker in whatever order, and at the end all of a chain: its own
--- bars, then those of the next ancestor that has any, up to the root. Assumes nothing.
-use Prim.Native.Nat.{ℕ, _+_, _*_}
+-- bars, then those of the next ancestor that has any, up to the root. Each marker tells whether one of its bars forbids a crossing.
+-- Assumes nothing.
+use Prim.Native.Nat.{ℕ, _+_, _*_, _≤_, _<_}
+use native.Mathlib.Omega.{arith}
 use mathlib.Core.Path.{_≡_, refl, sym, ap, subst, _∙_}
-use mathlib.Core.Bool.{Bool, true, false, _||_}
-use mathlib.Core.List.{List, [], _∷_, _++_, append-assoc, append-nil}
+use mathlib.Core.Bool.{Bool, true, false, _||_, or-assoc, or-comm}
+use mathlib.Core.List.{List, [], _∷_, _++_, append-nil}
 use lib.ListN.{length, getD}
 use Rattle.lists.specs.Lists.{anyOf, only}
 use Rattle.lists.proofs.Passing.{any-append}
 use Rattle.lent.specs.Lent.{zeroed, SameFrom}
 use Rattle.lent.proofs.Keeping.{same-from, same-then, zeroed-kept, zeroed-zero}
-use Rattle.routes.specs.Bars.{barsFor}
+use Rattle.routes.specs.Bars.{barsFor, barsCell}
 use Rattle.routes.specs.declared.Bar.{Bar}
 use Rattle.routes.specs.declared.Bar.the-variants.{Free, Stay, Cross}
 use Rattle.records.specs.Columns.{entry, barAt, isBar, ownBars, chainOf}
 use Rattle.records.proofs.Own.{own-binds, other-binds-not, root-binds}
-use Rattle.marks.specs.Marks.{Marked, boundBy}
+use Rattle.marks.specs.Marks.{standMark, digitsOf, Marked, boundBy, crosses}
 use Rattle.marks.specs.Post.{Layered, MarkedMore, MarkedAll, BoundAbove}
-use Rattle.marks.proofs.Marking.{mark-none, mark-free, mark-alike}
+use Rattle.marks.proofs.Marking.{stand-none, stand-same, stand-alike, digits-none, digits-alike, digits-not-crossing}
 use Rattle.marks.proofs.Places.{bounds}
 
-or-turned : (a b : Bool) → (a || b) ≡ (b || a)
-or-turned true true = refl
-or-turned true false = refl
-or-turned false true = refl
-or-turned false false = refl
-
-any-turned : (p : Bar → Bool) (xs ys zs : List Bar) → anyOf p ((xs ++ ys) ++ zs) ≡ anyOf p ((ys ++ xs) ++ zs)
+any-turned : (p : Bar → Bool) (xs ys zs : List Bar) → anyOf p ((xs ++ ys) ++ zs) ≡ anyOf p (ys ++ (xs ++ zs))
 any-turned p xs ys zs =
-    rw (any-append p (xs ++ ys) zs, any-append p xs ys, any-append p (ys ++ xs) zs, any-append p ys xs, or-turned (anyOf p xs) (anyOf p ys))
+    rw (any-append p (xs ++ ys) zs, any-append p xs ys, any-append p ys (xs ++ zs), any-append p xs zs, or-comm (anyOf p xs) (anyOf p ys))
+    (or-assoc (anyOf p ys) (anyOf p xs) (anyOf p zs))
 
 module _ (width height h : ℕ) where
+  -- the length of the two planes
+  abbrev both : ℕ
+  both = (h + 1) * (width * height) + (h + 1) * (width * height)
+
   -- the layers after a marker serve the next as they did it
   pub still-layered : (before after : List ℕ) → length after ≡ length before → Layered width height h before → Layered width height h after
   still-layered before after e l = record { some = l .some; wide = l .wide; high = l .high; late = l .late; room = rw e (l .room) }
 
   -- ---- cleared layers
 
-  pub cleared-kept : (before xs : List ℕ) → Layered width height h before → xs ≡ zeroed ((h + 1) * (width * height)) before → SameFrom ((h + 1) * (width * height)) before xs
-  cleared-kept before xs l e = subst (SameFrom ((h + 1) * (width * height)) before) (sym e) (zeroed-kept ((h + 1) * (width * height)) before (l .room))
+  cleared-kept : (before xs : List ℕ) → Layered width height h before → xs ≡ zeroed both before → SameFrom both before xs
+  cleared-kept before xs l e = subst (SameFrom both before) (sym e) (zeroed-kept both before (l .room))
 
-  cleared-marked : (before xs : List ℕ) → Layered width height h before → xs ≡ zeroed ((h + 1) * (width * height)) before → Marked width height [] h xs
+  cleared-marked : (before xs : List ℕ) → Layered width height h before → xs ≡ zeroed both before → Marked width height [] h xs
   cleared-marked before xs l e =
       record {
-        marks = λ t v k i.
-            ap (λ (ys : List ℕ). getD ys (t * (width * height) + v) 0) e
-            ∙ zeroed-zero ((h + 1) * (width * height)) (t * (width * height) + v) before (bounds width height h t v before l k i .below)
-            ∙ sym (mark-none width height t v);
+        stands = λ t v k i. let b = bounds width height h t v before l k i .below in zero (t * (width * height) + v) (omega arith) ∙ sym (stand-none t v);
+        crossings = λ t v k i.
+            let b = bounds width height h t v before l k i .below in
+            zero ((h + 1) * (width * height) + t * (width * height) + v) (omega arith) ∙ sym (digits-none width height t v);
+      }
+    where
+      zero : (x : ℕ) → x < both → getD xs x 0 ≡ 0
+      zero x k = ap (λ (ys : List ℕ). getD ys x 0) e ∙ zeroed-zero both x before k
+
+  -- ---- bars with the same marks
+
+  pub record Alike (some others : List Bar) : Type 0 where
+    pub stands : (t v : ℕ) → t ≤ h → v < width * height → standMark some t v ≡ standMark others t v
+    pub crossings : (t v : ℕ) → t ≤ h → v < width * height → digitsOf width height some t v ≡ digitsOf width height others t v
+
+  marked-alike : (some others : List Bar) (xs : List ℕ) → Alike some others → Marked width height some h xs → Marked width height others h xs
+  marked-alike some others xs a m =
+      record { stands = λ t v l i. m .stands t v l i ∙ a .stands t v l i; crossings = λ t v l i. m .crossings t v l i ∙ a .crossings t v l i }
+
+  alike-turned : (some others : List Bar) → Alike some others → Alike others some
+  alike-turned some others a = record { stands = λ t v l i. sym (a .stands t v l i); crossings = λ t v l i. sym (a .crossings t v l i) }
+
+  free-alike : (bars : List Bar) → Alike (Free ∷ bars) bars
+  free-alike bars =
+      record {
+        stands = λ t v l i. stand-same Free bars t v (unfold barsCell in refl);
+        crossings = λ t v l i. digits-not-crossing width height Free bars t v (unfold crosses in refl);
       }
 
   -- ---- some bars more
 
-  pub more-none : (xs : List ℕ) → MarkedMore width height h [] xs xs
-  more-none xs = record { marked = λ bars m. m; kept = same-from ((h + 1) * (width * height)) xs }
+  -- a bar that marks nothing
+  pub more-untouched : (b : Bar) (xs : List ℕ) → ((bars : List Bar) → Alike (b ∷ bars) bars) → MarkedMore width height h (b ∷ []) xs xs
+  more-untouched b xs a =
+      record { marked = λ bars m. marked-alike bars (b ∷ bars) xs (alike-turned (b ∷ bars) bars (a bars)) m; kept = same-from both xs }
 
-  pub more-then : (first second : List Bar) (xs ys zs : List ℕ) → MarkedMore width height h first xs ys → MarkedMore width height h second ys zs → MarkedMore width height h (second ++ first) xs zs
-  more-then first second xs ys zs f g =
-      record {
-        marked = λ bars m. subst (λ l. Marked width height l h zs) (sym (append-assoc second first bars)) (g .marked (first ++ bars) (f .marked bars m));
-        kept = same-then ((h + 1) * (width * height)) xs ys zs (f .kept) (g .kept);
-      }
+  -- marked, and whether one of them forbids a crossing
+  abbrev pub Told : List Bar → List ℕ → List ℕ → Bool → Type 0
+  Told more before after r = MarkedMore width height h more before after × (r ≡ anyOf crosses more)
 
-  pub more-free : (b : Bar) (xs : List ℕ) → b ≡ Free → MarkedMore width height h (b ∷ []) xs xs
-  more-free b xs e =
-      rw e
-      (record {
-        marked = λ bars m. record { marks = λ t v l i. m .marks t v l i ∙ sym (mark-free width height bars t v) };
-        kept = same-from ((h + 1) * (width * height)) xs;
-      })
+  told-none : (xs : List ℕ) → Told [] xs xs false
+  unfolding anyOf
+  told-none xs = (record { marked = λ bars m. m; kept = same-from both xs }, refl)
 
-  pub more-bar : (b c : Bar) (xs ys : List ℕ) → b ≡ c → MarkedMore width height h (c ∷ []) xs ys → MarkedMore width height h (b ∷ []) xs ys
-  more-bar b c xs ys e f = rw e f
+  -- in either order
+  told-then : (some others : List Bar) (xs ys zs : List ℕ) (r q : Bool) → Told some xs ys r → Told others ys zs q → Told (some ++ others) xs zs (r || q)
+  told-then some others xs ys zs r q f g = (
+    record {
+      marked = λ bars m.
+          marked-alike (others ++ (some ++ bars)) ((some ++ others) ++ bars) zs (turned bars) (g .0 .marked (some ++ bars) (f .0 .marked bars m));
+      kept = same-then both xs ys zs (f .0 .kept) (g .0 .kept);
+    },
+    rw (f .1, g .1) (sym (any-append crosses some others)),
+  )
+    where
+      turned : (bars : List Bar) → Alike (others ++ (some ++ bars)) ((some ++ others) ++ bars)
+      turned bars =
+          record {
+            stands = λ t v l i. stand-alike (others ++ (some ++ bars)) ((some ++ others) ++ bars) t v (λ p. sym (any-turned p some others bars));
+            crossings = λ t v l i. digits-alike width height (others ++ (some ++ bars)) ((some ++ others) ++ bars) t v (λ p. sym (any-turned p some others bars));
+          }
+
+  -- ---- one bar by its kind
+
+  pub told-free : (b : Bar) (xs : List ℕ) → b ≡ Free → Told (b ∷ []) xs xs false
+  unfolding anyOf crosses
+  told-free b xs e = rw e (more-untouched Free xs free-alike, refl)
+
+  pub told-stay : (b : Bar) (v first last : ℕ) (xs ys : List ℕ) → b ≡ Stay v first last → MarkedMore width height h (Stay v first last ∷ []) xs ys → Told (b ∷ []) xs ys false
+  unfolding anyOf crosses
+  told-stay b v first last xs ys e m = rw e (m, refl)
+
+  pub told-cross : (b : Bar) (u v t : ℕ) (xs ys : List ℕ) → b ≡ Cross u v t → MarkedMore width height h (Cross u v t ∷ []) xs ys → Told (b ∷ []) xs ys true
+  unfolding anyOf crosses
+  told-cross b u v t xs ys e m = rw e (m, refl)
 
   -- a record without a bar marks none, whether it is left out or marked
-  bar-or-none : (b : Bar) (xs ys : List ℕ) → MarkedMore width height h (b ∷ []) xs ys → MarkedMore width height h (only (isBar b) b) xs ys
-  unfolding only isBar
-  bar-or-none Free xs ys f =
-      record {
-        marked = λ bars m. record { marks = λ t v l i. f .marked bars m .marks t v l i ∙ mark-free width height bars t v };
-        kept = f .kept;
-      }
-  bar-or-none (Stay v a b) xs ys f = f
-  bar-or-none (Cross u v t) xs ys f = f
-
-  -- in any order
-  more-turned : (first second : List Bar) (xs ys : List ℕ) → MarkedMore width height h (first ++ second) xs ys → MarkedMore width height h (second ++ first) xs ys
-  more-turned first second xs ys f =
-      record {
-        marked = λ bars m. record { marks = λ t v l i. f .marked bars m .marks t v l i ∙ mark-alike width height ((first ++ second) ++ bars) ((second ++ first) ++ bars) t v (λ p. any-turned p first second bars) };
-        kept = f .kept;
-      }
-
-  -- once the rest is marked, all are
-  pub record Left (all some : List Bar) (before now : List ℕ) : Type 0 where
-    pub rest : (after : List ℕ) → MarkedMore width height h some now after → MarkedMore width height h all before after
-
-  pub all-left : (all : List Bar) (xs : List ℕ) → Left all all xs xs
-  all-left all xs = record { rest = λ ys m. m }
+  bar-or-none : (b : Bar) (xs ys : List ℕ) (r : Bool) → Told (b ∷ []) xs ys r → Told (only (isBar b) b) xs ys r
+  unfolding only isBar anyOf crosses
+  bar-or-none Free xs ys r f =
+      (record { marked = λ bars m. marked-alike (Free ∷ bars) bars ys (free-alike bars) (f .0 .marked bars m); kept = f .0 .kept }, f .1)
+  bar-or-none (Stay v a b) xs ys r f = f
+  bar-or-none (Cross u v t) xs ys r f = f
 
   -- ---- a chain
 
+  -- what was told of the bars marked so far; once the rest is marked, all are
+  pub record Left (all some : List Bar) (before now : List ℕ) (crossing : Bool) : Type 0 where
+    pub rest : (after : List ℕ) (r : Bool) → Told some now after r → Told all before after (crossing || r)
+
+  pub all-left : (all : List Bar) (xs : List ℕ) → Left all all xs xs false
+  all-left all xs = record { rest = λ ys r m. m }
+
   module _ (capacity : ℕ) (columns : List ℕ) (x carrier : ℕ) where
-    pub own-other : (xs : List ℕ) → (entry capacity columns 2 x ≡ carrier → ⊥) → MarkedMore width height h (barsFor carrier (ownBars capacity columns x)) xs xs
-    own-other xs n = rw (other-binds-not capacity columns x carrier n) (more-none xs)
+    pub own-other : (xs : List ℕ) → (entry capacity columns 2 x ≡ carrier → ⊥) → Told (barsFor carrier (ownBars capacity columns x)) xs xs false
+    own-other xs n = rw (other-binds-not capacity columns x carrier n) (told-none xs)
 
-    pub own-marked : (b : Bar) (xs ys : List ℕ) → entry capacity columns 2 x ≡ carrier → b ≡ barAt capacity columns x → MarkedMore width height h (b ∷ []) xs ys → MarkedMore width height h (barsFor carrier (ownBars capacity columns x)) xs ys
-    own-marked b xs ys e f g = rw (own-binds capacity columns x carrier e, ← f) (bar-or-none b xs ys g)
+    pub own-marked : (b : Bar) (xs ys : List ℕ) (r : Bool) → entry capacity columns 2 x ≡ carrier → b ≡ barAt capacity columns x → Told (b ∷ []) xs ys r → Told (barsFor carrier (ownBars capacity columns x)) xs ys r
+    own-marked b xs ys r e f g = rw (own-binds capacity columns x carrier e, ← f) (bar-or-none b xs ys r g)
 
-    -- ---- what is left to mark
-
-    pub own-then : (all : List Bar) (above : ℕ) (xs ys zs : List ℕ) → Left all (barsFor carrier (chainOf capacity columns x)) xs ys → MarkedMore width height h (barsFor carrier (ownBars capacity columns x)) ys zs → BoundAbove capacity columns x carrier above → Left all (barsFor carrier (chainOf capacity columns above)) xs zs
-    own-then all above xs ys zs f g b =
+    pub own-then : (all : List Bar) (above : ℕ) (xs ys zs : List ℕ) (crossing own r : Bool) → Left all (barsFor carrier (chainOf capacity columns x)) xs ys crossing → Told (barsFor carrier (ownBars capacity columns x)) ys zs own → BoundAbove capacity columns x carrier above → r ≡ (crossing || own) → Left all (barsFor carrier (chainOf capacity columns above)) xs zs r
+    own-then all above xs ys zs crossing own r f g b e =
         record {
-          rest = λ ws m.
-              f .rest ws
+          rest = λ ws q m.
+              rw (e, or-assoc crossing own q)
+              (f .rest ws (own || q)
               (rw (b .goes-on)
-              (more-turned (barsFor carrier (chainOf capacity columns above)) (barsFor carrier (ownBars capacity columns x)) ys ws
-              (more-then (barsFor carrier (ownBars capacity columns x)) (barsFor carrier (chainOf capacity columns above)) ys zs ws g m)));
+              (told-then (barsFor carrier (ownBars capacity columns x)) (barsFor carrier (chainOf capacity columns above)) ys zs ws own q g m)));
         }
 
-    pub root-last : (all : List Bar) (xs ys zs : List ℕ) → Left all (barsFor carrier (chainOf capacity columns x)) xs ys → x ≡ 0 → MarkedMore width height h (barsFor carrier (ownBars capacity columns x)) ys zs → MarkedMore width height h all xs zs
-    root-last all xs ys zs f e g = f .rest zs (rw (root-binds capacity columns x carrier e) g)
+    pub root-last : (all : List Bar) (xs ys zs : List ℕ) (crossing own r : Bool) → Left all (barsFor carrier (chainOf capacity columns x)) xs ys crossing → x ≡ 0 → Told (barsFor carrier (ownBars capacity columns x)) ys zs own → r ≡ (crossing || own) → Told all xs zs r
+    root-last all xs ys zs crossing own r f z g e = rw e (f .rest zs own (rw (root-binds capacity columns x carrier z) g))
 
     -- ---- all bars
 
-    pub all-marked : (b : Bar) (before xs ys zs : List ℕ) → Layered width height h before → xs ≡ zeroed ((h + 1) * (width * height)) before → MarkedMore width height h (barsFor carrier (chainOf capacity columns x)) xs ys → MarkedMore width height h (b ∷ []) ys zs → MarkedAll width height h (boundBy capacity columns x carrier b) before zs
+    pub all-told : (b : Bar) (before xs ys zs : List ℕ) (above new r : Bool) → Layered width height h before → xs ≡ zeroed both before → Told (barsFor carrier (chainOf capacity columns x)) xs ys above → Told (b ∷ []) ys zs new → r ≡ (new || above) → MarkedAll width height h (boundBy capacity columns x carrier b) before zs × (r ≡ anyOf crosses (boundBy capacity columns x carrier b))
     unfolding boundBy
-    all-marked b before xs ys zs l c f g =
+    all-told b before xs ys zs above new r l c f g e =
         let chain = barsFor carrier (chainOf capacity columns x) in
-        let m : Marked width height chain h ys = subst (λ l. Marked width height l h ys) (append-nil chain) (f .marked [] (cleared-marked before xs l c)) in
-        record {
-          marked = g .marked chain m;
-          kept = same-then ((h + 1) * (width * height)) before ys zs (same-then ((h + 1) * (width * height)) before xs ys (cleared-kept before xs l c) (f .kept)) (g .kept);
-        }
+        let m : Marked width height chain h ys = subst (λ l. Marked width height l h ys) (append-nil chain) (f .0 .marked [] (cleared-marked before xs l c)) in (
+          record {
+            marked = g .0 .marked chain m;
+            kept = same-then both before ys zs (same-then both before xs ys (cleared-kept before xs l c) (f .0 .kept)) (g .0 .kept);
+          },
+          e ∙ (rw (f .1, g .1) (sym (any-append crosses (b ∷ []) chain))),
+        )

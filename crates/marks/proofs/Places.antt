@@ -1,4 +1,4 @@
--- Places in the layers: inside for each step up to h and each cell. Assumes nothing.
+-- Places in the layers: inside, in either plane, for each step up to h and each cell. Assumes nothing.
 use Prim.Native.Nat.{ℕ, _+_, _*_, _≤_, _<_}
 use native.Mathlib.Nat.{mul-le-mul}
 use native.Mathlib.Omega.{arith}
@@ -12,8 +12,10 @@ use Rattle.marks.specs.Post.{Layered}
 pub record Bounds (size h t v long : ℕ) : Type 0 where
   pub product : t * size ≤ 16128
   pub cell : v < 256
+  pub plane : (h + 1) * size ≤ 16384
   pub below : t * size + v < (h + 1) * size
   pub inside : t * size + v < long
+  pub second : (h + 1) * size + t * size + v < long
 
 pub size-small : (width height h : ℕ) (layers : List ℕ) → Layered width height h layers → width * height ≤ 256
 size-small width height h layers l = area-small (l .wide) (l .high)
@@ -30,6 +32,8 @@ bounds width height h t v layers l k i =
     record {
       product = mul-le-mul {n₁ = t} {m₁ = width * height} {n₂ = 63} {m₂ = 256} (omega arith) size;
       cell = omega arith;
+      plane = whole-small width height h layers l;
       below = below;
       inside = omega arith;
+      second = omega arith;
     }

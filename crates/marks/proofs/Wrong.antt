@@ -1,16 +1,19 @@
--- Wrong answers that the contracts of `digit_of` and `mark_all` rule out. Those of `mark_all` leave a byte 0 that a bar marks with 255, in
--- two cells in a row with H 1; antt computes which bars bind, and what their mark is. Assumes nothing.
+-- Wrong answers that the contracts of `digit_of` and `mark_all` rule out. Those of `mark_all` are of two cells in a row with H 1, so that
+-- each plane has four bytes; antt computes which bars bind, and what their marks are. Assumes nothing.
 use Prim.Native.Nat.{ℕ, _^_}
 use native.Mathlib.Omega.{arith}
 use mathlib.Core.Path.{_≡_, refl, sym, ap, _∙_}
+use mathlib.Core.Bool.{true, false}
 use mathlib.Core.List.{List, [], _∷_}
 use lib.ListN.{getD}
-use Rattle.lists.specs.Lists.{only, anyOf}
-use Rattle.routes.specs.Bars.{barsFor, barsCell}
+use Rattle.lists.specs.Lists.{only, anyOf, sumTo}
+use Rattle.lists.proofs.Tests.{not-both}
+use Rattle.hall.specs.Moves.{onGrid, cellAt, landing}
+use Rattle.routes.specs.Bars.{barsFor, barsCell, barsWay}
 use Rattle.routes.specs.declared.Bar.{Bar}
-use Rattle.routes.specs.declared.Bar.the-variants.{Free, Stay}
+use Rattle.routes.specs.declared.Bar.the-variants.{Free, Stay, Cross}
 use Rattle.records.specs.Columns.{barFrom, barAt, isBar, ownBars, chains, chainOf}
-use Rattle.marks.specs.Marks.{boundBy, markOf}
+use Rattle.marks.specs.Marks.{boundBy, standMark, barsMove, digit, digitsOf, crosses}
 use Rattle.marks.specs.Post.{MarkedAll}
 
 -- ---- digit_of
@@ -30,35 +33,61 @@ digits-exchanged e = let z : _≡_ {A = ℕ} 8 4 = e in omega arith
 abbrev three : List ℕ
 three = 0 ∷ 0 ∷ 1 ∷ 1 ∷ 1 ∷ 0 ∷ 0 ∷ 1 ∷ 0 ∷ 1 ∷ 0 ∷ 0 ∷ 0 ∷ 0 ∷ 0 ∷ 1 ∷ 1 ∷ 0 ∷ 0 ∷ 0 ∷ 0 ∷ 0 ∷ 0 ∷ 0 ∷ []
 
--- what is left where node 2 is asked for a carrier
-abbrev Left : ℕ → List ℕ → List ℕ → Type 0
-Left carrier before after = MarkedAll 2 1 1 (boundBy 3 three 2 carrier Free) before after
+-- what is left where node 2 is asked for a carrier, with one new bar
+abbrev Left : ℕ → Bar → List ℕ → List ℕ → Type 0
+Left carrier bar before after = MarkedAll 2 1 1 (boundBy 3 three 2 carrier bar) before after
 
-of-carrier-0 : boundBy 3 three 2 0 Free ≡ Free ∷ Stay 1 0 1 ∷ []
+of-carrier-0 : (bar : Bar) → boundBy 3 three 2 0 bar ≡ bar ∷ Stay 1 0 1 ∷ []
 unfolding boundBy barsFor chainOf chains ownBars isBar barAt barFrom only
-of-carrier-0 = refl
+of-carrier-0 bar = refl
 
 of-carrier-1 : boundBy 3 three 2 1 Free ≡ Free ∷ Stay 0 0 1 ∷ []
 unfolding boundBy barsFor chainOf chains ownBars isBar barAt barFrom only
 of-carrier-1 = refl
 
 -- the last step of a bar not marked
-pub last-step-left-out : (before after : List ℕ) → Left 0 before after → getD after 3 0 ≡ 0 → ⊥
-unfolding markOf barsCell anyOf
+pub last-step-left-out : (before after : List ℕ) → Left 0 Free before after → getD after 3 0 ≡ 0 → ⊥
+unfolding standMark barsCell anyOf
 last-step-left-out before after m wrong =
-    let z : _≡_ {A = ℕ} 0 255 = sym wrong ∙ m .marked .marks 1 1 (omega arith) (omega arith) ∙ ap (λ (bars : List Bar). markOf 2 1 bars 1 1) of-carrier-0 in
+    let z : _≡_ {A = ℕ} 0 255 = sym wrong ∙ m .marked .stands 1 1 (omega arith) (omega arith) ∙ ap (λ (bars : List Bar). standMark bars 1 1) (of-carrier-0 Free) in
     omega arith
 
 -- the walk ends before the root: its bar is not marked at any step
-pub root-left-out : (before after : List ℕ) → Left 0 before after → getD after 1 0 ≡ 0 → ⊥
-unfolding markOf barsCell anyOf
+pub root-left-out : (before after : List ℕ) → Left 0 Free before after → getD after 1 0 ≡ 0 → ⊥
+unfolding standMark barsCell anyOf
 root-left-out before after m wrong =
-    let z : _≡_ {A = ℕ} 0 255 = sym wrong ∙ m .marked .marks 0 1 (omega arith) (omega arith) ∙ ap (λ (bars : List Bar). markOf 2 1 bars 0 1) of-carrier-0 in
+    let z : _≡_ {A = ℕ} 0 255 = sym wrong ∙ m .marked .stands 0 1 (omega arith) (omega arith) ∙ ap (λ (bars : List Bar). standMark bars 0 1) (of-carrier-0 Free) in
     omega arith
 
 -- the ancestors asked for another carrier: the bar of carrier 1 is not marked
-pub bar-of-the-carrier-left-out : (before after : List ℕ) → Left 1 before after → getD after 0 0 ≡ 0 → ⊥
-unfolding markOf barsCell anyOf
+pub bar-of-the-carrier-left-out : (before after : List ℕ) → Left 1 Free before after → getD after 0 0 ≡ 0 → ⊥
+unfolding standMark barsCell anyOf
 bar-of-the-carrier-left-out before after m wrong =
-    let z : _≡_ {A = ℕ} 0 255 = sym wrong ∙ m .marked .marks 0 0 (omega arith) (omega arith) ∙ ap (λ (bars : List Bar). markOf 2 1 bars 0 0) of-carrier-1 in
+    let z : _≡_ {A = ℕ} 0 255 = sym wrong ∙ m .marked .stands 0 0 (omega arith) (omega arith) ∙ ap (λ (bars : List Bar). standMark bars 0 0) of-carrier-1 in
     omega arith
+
+-- a crossing, the move to the right from cell 0 at step 0, marked in the first plane
+pub crossing-in-the-first-plane : (before after : List ℕ) → Left 0 (Cross 0 1 0) before after → getD after 0 0 ≡ 8 → ⊥
+unfolding standMark barsCell anyOf
+crossing-in-the-first-plane before after m wrong =
+    let z : _≡_ {A = ℕ} 8 0 = sym wrong ∙ m .marked .stands 0 0 (omega arith) (omega arith) ∙ ap (λ (bars : List Bar). standMark bars 0 0) (of-carrier-0 (Cross 0 1 0)) in
+    omega arith
+
+-- the same crossing not marked in the second
+pub crossing-left-out : (before after : List ℕ) → Left 0 (Cross 0 1 0) before after → getD after 4 0 ≡ 0 → ⊥
+unfolding digitsOf sumTo digit barsMove landing onGrid cellAt only barsWay anyOf
+crossing-left-out before after m wrong =
+    let z : _≡_ {A = ℕ} 0 8 = sym wrong ∙ m .marked .crossings 0 0 (omega arith) (omega arith) ∙ ap (λ (bars : List Bar). digitsOf 2 1 bars 0 0) (of-carrier-0 (Cross 0 1 0)) in
+    omega arith
+
+-- the second plane not cleared: what stood there is left
+pub second-plane-not-cleared : (before after : List ℕ) → Left 0 Free before after → getD before 4 0 ≡ 8 → getD after 4 0 ≡ getD before 4 0 → ⊥
+unfolding digitsOf sumTo digit barsMove landing onGrid cellAt only barsWay anyOf
+second-plane-not-cleared before after m old wrong =
+    let z : _≡_ {A = ℕ} 8 0 = sym old ∙ sym wrong ∙ m .marked .crossings 0 0 (omega arith) (omega arith) ∙ ap (λ (bars : List Bar). digitsOf 2 1 bars 0 0) (of-carrier-0 Free) in
+    omega arith
+
+-- a crossing that is said not to be there
+pub crossing-not-told : false ≡ anyOf crosses (boundBy 3 three 2 0 (Cross 0 1 0)) → ⊥
+unfolding anyOf crosses boundBy
+crossing-not-told e = not-both {b = true} refl (sym e)

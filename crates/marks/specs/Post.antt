@@ -14,21 +14,21 @@ use Rattle.routes.specs.declared.Bar.{Bar}
 use Rattle.records.specs.Columns.{entry, ownBars, chainOf}
 use Rattle.marks.specs.Marks.{Marked}
 
--- layers with a byte for each step up to h and each cell of a hall
+-- layers with two planes of a byte for each step up to h and each cell of a hall
 pub record Layered (width height h : ℕ) (layers : List ℕ) : Type 0 where
   pub some : 1 ≤ width
   pub wide : width ≤ 16
   pub high : height ≤ 16
   pub late : h ≤ 63
-  pub room : (h + 1) * (width * height) ≤ length layers
+  pub room : (h + 1) * (width * height) + (h + 1) * (width * height) ≤ length layers
 
 pub record MarkedMore (width height h : ℕ) (more : List Bar) (before after : List ℕ) : Type 0 where
   pub marked : (bars : List Bar) → Marked width height bars h before → Marked width height (more ++ bars) h after
-  pub kept : SameFrom ((h + 1) * (width * height)) before after
+  pub kept : SameFrom ((h + 1) * (width * height) + (h + 1) * (width * height)) before after
 
 pub record MarkedAll (width height h : ℕ) (bars : List Bar) (before after : List ℕ) : Type 0 where
   pub marked : Marked width height bars h after
-  pub kept : SameFrom ((h + 1) * (width * height)) before after
+  pub kept : SameFrom ((h + 1) * (width * height) + (h + 1) * (width * height)) before after
 
 -- the ancestor from which the bars that bind a carrier go on: no record between it and x has one, and it has, or is the root
 pub record BoundAbove (capacity : ℕ) (columns : List ℕ) (x carrier above : ℕ) : Type 0 where

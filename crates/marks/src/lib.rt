@@ -1,17 +1,28 @@
-// The bars of a node, marked in the lent layers, so that filling them never walks the ancestors.
+// The bars of a node, marked in the lent layers, so that filling them never walks the ancestors. The layers are two planes, each with a
+// byte for each step and cell: in the first a cell that is barred at a step is marked, in the second the moves that are barred there.
+use hall::Grid;
 use routes::Bar;
 ghost use Prim.Native.Nat.{_^_, _≤_, _<_, min};
+ghost use mathlib.Core.Bool.{_||_};
 ghost use mathlib.Core.List.{[], _∷_};
 ghost use mathlib.Core.Path.{_≡_};
-ghost use lib.ListN.{length};
+ghost use Rattle.lists.specs.Lists.{anyOf};
 ghost use Rattle.routes.specs.Bars.{barsFor};
 ghost use Rattle.routes.specs.declared.Bar.the-variants.{Stay, Cross};
 ghost use Rattle.records.specs.Columns.{ownBars, chainOf, Falls};
-ghost use Rattle.marks.specs.Marks.{boundBy};
+ghost use Rattle.marks.specs.Marks.{boundBy, crosses};
 ghost use Rattle.marks.specs.Post.{Layered, MarkedMore, MarkedAll, BoundAbove, MoveTo, withDigit};
 
 // The mark of a cell that is barred at a step.
-pub const BARRED: u8 = 255;
+const BARRED: u8 = 255;
+
+// Whose bars are asked for: those that bind a carrier at a node of N records, and a new one.
+pub struct Bound {
+    pub capacity: usize,
+    pub node: usize,
+    pub carrier: usize,
+    pub bar: Bar,
+}
 
 // The lesser of two numbers.
 fn lesser(a: usize, b: usize) -> usize
@@ -20,20 +31,19 @@ fn lesser(a: usize, b: usize) -> usize
     if a < b { a } else { b }
 }
 
-// 'may not be on a cell from step a to step b'; steps past h are dropped, which changes nothing.
-fn mark_stay(
-    layers: &mut [u8],
-    width: usize,
-    height: usize,
-    h: usize,
-    cell: usize,
-    first: usize,
-    last: usize,
-)
-    requires { ⌜ Layered width height h (now layers) ⌝ }
-    ensures { λ r. ⌜ MarkedMore width height h (Stay cell first last ∷ []) (now (layers .entry)) (now (layers .exit)) ⌝ }
+// Either of two.
+fn either(a: bool, b: bool) -> bool
+    ensures { λ r. ⌜ r ≡ (a || b) ⌝ }
 {
-    let size = width * height;
+    if a { true } else { b }
+}
+
+// 'may not be on a cell from step a to step b'; steps past h are dropped, which changes nothing.
+fn mark_stay(layers: &mut [u8], grid: Grid, h: usize, cell: usize, first: usize, last: usize)
+    requires { ⌜ Layered (grid .width) (grid .height) h (now layers) ⌝ }
+    ensures { λ r. ⌜ MarkedMore (grid .width) (grid .height) h (Stay cell first last ∷ []) (now (layers .entry)) (now (layers .exit)) ⌝ }
+{
+    let size = grid.width * grid.height;
     if size <= cell {
         return;
     }
@@ -49,14 +59,14 @@ fn mark_stay(
 const DIGITS: [u8; 5] = [1, 2, 4, 8, 16];
 
 // The digit of move m.
-pub fn digit_of(m: usize) -> u8
+fn digit_of(m: usize) -> u8
     requires { ⌜ m < 5 ⌝ }
     ensures { λ r. ⌜ r ≡ 2 ^ m ⌝ }
 {
     DIGITS[m]
 }
 
-// A mark with the digit of move m. A barred cell has every digit already.
+// Digits with that of move m.
 fn with_digit(mark: u8, m: usize) -> u8
     requires { ⌜ m < 5 ⌝ }
     ensures { λ r. ⌜ r ≡ withDigit mark m ⌝ }
@@ -68,15 +78,15 @@ fn with_digit(mark: u8, m: usize) -> u8
 }
 
 // The move that leads from one cell to another, or hall::MOVE_COUNT where none does.
-fn move_to(width: usize, height: usize, from: usize, to: usize) -> usize
-    requires { ⌜ (1 ≤ width) × (width ≤ 16) × (height ≤ 16) × (from < 256) ⌝ }
-    ensures { λ r. ⌜ MoveTo width height from to r ⌝ }
+fn move_to(grid: Grid, from: usize, to: usize) -> usize
+    requires { ⌜ (1 ≤ grid .width) × (grid .width ≤ 16) × (grid .height ≤ 16) × (from < 256) ⌝ }
+    ensures { λ r. ⌜ MoveTo (grid .width) (grid .height) from to r ⌝ }
 {
-    let row = from / width;
-    let col = from % width;
+    let row = from / grid.width;
+    let col = from % grid.width;
     let mut m = 0;
     while m < hall::MOVE_COUNT {
-        if hall::lands_on(width, height, row, col, m, to) {
+        if hall::lands_on(grid.width, grid.height, row, col, m, to) {
             return m;
         }
         m += 1;
@@ -85,64 +95,61 @@ fn move_to(width: usize, height: usize, from: usize, to: usize) -> usize
 }
 
 // 'may not go from one cell to another between t and t + 1'
-fn mark_cross(
-    layers: &mut [u8],
-    width: usize,
-    height: usize,
-    h: usize,
-    from: usize,
-    to: usize,
-    step: usize,
-)
-    requires { ⌜ Layered width height h (now layers) ⌝ }
-    ensures { λ r. ⌜ MarkedMore width height h (Cross from to step ∷ []) (now (layers .entry)) (now (layers .exit)) ⌝ }
+fn mark_cross(layers: &mut [u8], grid: Grid, h: usize, from: usize, to: usize, step: usize)
+    requires { ⌜ Layered (grid .width) (grid .height) h (now layers) ⌝ }
+    ensures { λ r. ⌜ MarkedMore (grid .width) (grid .height) h (Cross from to step ∷ []) (now (layers .entry)) (now (layers .exit)) ⌝ }
 {
-    let size = width * height;
+    let size = grid.width * grid.height;
     if h < step {
         return;
     }
     if size <= from {
         return;
     }
-    let m = move_to(width, height, from, to);
+    let m = move_to(grid, from, to);
     if hall::MOVE_COUNT <= m {
         return;
     }
-    let place = step * size + from;
+    let place = (h + 1) * size + step * size + from;
     layers[place] = with_digit(layers[place], m);
 }
 
-// One bar more, of either kind or none.
-fn mark_bar(layers: &mut [u8], width: usize, height: usize, h: usize, bar: Bar)
-    requires { ⌜ Layered width height h (now layers) ⌝ }
-    ensures { λ r. ⌜ MarkedMore width height h (bar ∷ []) (now (layers .entry)) (now (layers .exit)) ⌝ }
+// One bar more, of either kind or none; and whether it forbids a crossing.
+fn mark_bar(layers: &mut [u8], grid: Grid, h: usize, bar: Bar) -> bool
+    requires { ⌜ Layered (grid .width) (grid .height) h (now layers) ⌝ }
+    ensures { λ r. ⌜ MarkedMore (grid .width) (grid .height) h (bar ∷ []) (now (layers .entry)) (now (layers .exit)) × (r ≡ anyOf crosses (bar ∷ [])) ⌝ }
 {
     match bar {
-        Bar::Free => {}
-        Bar::Stay { cell, first, last } => mark_stay(layers, width, height, h, cell, first, last),
-        Bar::Cross { from, to, step } => mark_cross(layers, width, height, h, from, to, step),
+        Bar::Free => false,
+        Bar::Stay { cell, first, last } => {
+            mark_stay(layers, grid, h, cell, first, last);
+            false
+        }
+        Bar::Cross { from, to, step } => {
+            mark_cross(layers, grid, h, from, to, step);
+            true
+        }
     }
 }
 
 // The bar in a node's own record, if it binds this carrier.
 fn mark_own(
     layers: &mut [u8],
-    width: usize,
-    height: usize,
+    grid: Grid,
     h: usize,
     columns: &[u16],
     capacity: usize,
     node: usize,
     carrier: usize,
-)
-    requires { ⌜ Layered width height h (now layers) × Falls capacity (now columns) node ⌝ }
-    ensures { λ r. ⌜ MarkedMore width height h (barsFor carrier (ownBars capacity (now (columns .entry)) node)) (now (layers .entry)) (now (layers .exit)) ⌝ }
+) -> bool
+    requires { ⌜ Layered (grid .width) (grid .height) h (now layers) × Falls capacity (now columns) node ⌝ }
+    ensures { λ r. ⌜ MarkedMore (grid .width) (grid .height) h (barsFor carrier (ownBars capacity (now (columns .entry)) node)) (now (layers .entry)) (now (layers .exit)) × (r ≡ anyOf crosses (barsFor carrier (ownBars capacity (now (columns .entry)) node))) ⌝ }
 {
     if records::entry_at(columns, capacity, records::CARRIER, node) != carrier {
-        return;
+        return false;
     }
     let bar = records::bar_at(columns, capacity, node);
-    mark_bar(layers, width, height, h, bar);
+    mark_bar(layers, grid, h, bar)
 }
 
 // 'or in the record of one of its ancestors': the nearest ancestor whose bar is for the carrier, or the root. The layers
@@ -165,41 +172,44 @@ fn bound_above(columns: &[u16], capacity: usize, node: usize, carrier: usize) ->
 // marked, up to the root's.
 fn mark_up(
     layers: &mut [u8],
-    width: usize,
-    height: usize,
+    grid: Grid,
     h: usize,
     columns: &[u16],
     capacity: usize,
     node: usize,
     carrier: usize,
-)
-    requires { ⌜ Layered width height h (now layers) × Falls capacity (now columns) node ⌝ }
-    ensures { λ r. ⌜ MarkedMore width height h (barsFor carrier (chainOf capacity (now (columns .entry)) node)) (now (layers .entry)) (now (layers .exit)) ⌝ }
+) -> bool
+    requires { ⌜ Layered (grid .width) (grid .height) h (now layers) × Falls capacity (now columns) node ⌝ }
+    ensures { λ r. ⌜ MarkedMore (grid .width) (grid .height) h (barsFor carrier (chainOf capacity (now (columns .entry)) node)) (now (layers .entry)) (now (layers .exit)) × (r ≡ anyOf crosses (barsFor carrier (chainOf capacity (now (columns .entry)) node))) ⌝ }
 {
+    let mut crossing = false;
     let mut at = node;
     while at != 0 {
-        mark_own(layers, width, height, h, columns, capacity, at, carrier);
+        let own = mark_own(layers, grid, h, columns, capacity, at, carrier);
+        crossing = either(crossing, own);
         at = bound_above(columns, capacity, at, carrier);
     }
-    mark_own(layers, width, height, h, columns, capacity, at, carrier);
+    let own = mark_own(layers, grid, h, columns, capacity, at, carrier);
+    either(crossing, own)
 }
 
-// All bars that bind a carrier at a node, and one new bar.
-pub fn mark_all(
-    layers: &mut [u8],
-    width: usize,
-    height: usize,
-    h: usize,
-    columns: &[u16],
-    capacity: usize,
-    node: usize,
-    carrier: usize,
-    bar: Bar,
-)
-    requires { ⌜ Layered width height h (now layers) × Falls capacity (now columns) node ⌝ }
-    ensures { λ r. ⌜ MarkedAll width height h (boundBy capacity (now (columns .entry)) node carrier bar) (now (layers .entry)) (now (layers .exit)) ⌝ }
+// All bars that bind a carrier at a node, and a new one; and whether one of them forbids a crossing.
+pub fn mark_all(layers: &mut [u8], grid: Grid, h: usize, columns: &[u16], bound: Bound) -> bool
+    requires { ⌜ Layered (grid .width) (grid .height) h (now layers) × Falls (bound .capacity) (now columns) (bound .node) ⌝ }
+    ensures { λ r. ⌜ MarkedAll (grid .width) (grid .height) h (boundBy (bound .capacity) (now (columns .entry)) (bound .node) (bound .carrier) (bound .bar)) (now (layers .entry)) (now (layers .exit)) × (r ≡ anyOf crosses (boundBy (bound .capacity) (now (columns .entry)) (bound .node) (bound .carrier) (bound .bar))) ⌝ }
 {
-    lent::clear_bytes(layers, (h + 1) * (width * height));
-    mark_up(layers, width, height, h, columns, capacity, node, carrier);
-    mark_bar(layers, width, height, h, bar);
+    let plane = (h + 1) * (grid.width * grid.height);
+    lent::clear_bytes(layers, plane + plane);
+    let above = mark_up(
+        layers,
+        grid,
+        h,
+        columns,
+        bound.capacity,
+        bound.node,
+        bound.carrier,
+    );
+    let bar = bound.bar;
+    let new = mark_bar(layers, grid, h, bar);
+    either(new, above)
 }

@@ -88,7 +88,7 @@ module _ (task : Task) (ts : Tables) where
   unfolding firstShort lengthsOf
   short-any bytes = refl
 
-  -- the tests in their order; `stretch` is the length of one plan
+  -- the tests in their order; `stretch` is the length of one plan, `planes` that of the layers
   abbrev verdict : Lengths
   verdict = lengthsOf (neededLength (jobIn task) (task .capacity)) (firstShort (jobIn task) (task .capacity) ts)
 
@@ -109,20 +109,24 @@ module _ (task : Task) (ts : Tables) where
       two : (s : ℕ) → s < 2 → neededLength (jobIn task) (task .capacity) s ≤ lentLength ts s
       two = let room : plansLength (jobIn task) (task .capacity) ≤ length (ts .plans) = rw is at plans-room in one-more (jobIn task) (task .capacity) ts 1 one room
 
-      pub short-layers : length (ts .layers) < layersLength (jobIn task) → Lacking 2 (layersLength (jobIn task)) ≡ verdict
-      short-layers l = lacking (jobIn task) (task .capacity) ts 2 (layersLength (jobIn task)) (record { short = l; first = two }) refl
+      module _ (planes : ℕ) (twice : planes ≡ layersLength (jobIn task)) where
+        pub short-layers : length (ts .layers) < planes → Lacking 2 planes ≡ verdict
+        short-layers l = lacking (jobIn task) (task .capacity) ts 2 planes (record { short = omega (arith, twice); first = two }) twice
 
-      module _ (layers-room : layersLength (jobIn task) ≤ length (ts .layers)) where
-        pub short-output : length (ts .output) < stretch → Lacking 3 stretch ≡ verdict
-        short-output l =
-            let k : length (ts .output) < planLength (jobIn task) = rw is at l in
-            lacking (jobIn task) (task .capacity) ts 3 stretch (record { short = k; first = one-more (jobIn task) (task .capacity) ts 2 two layers-room }) is
+        module _ (layers-room : planes ≤ length (ts .layers)) where
+          layers-long : layersLength (jobIn task) ≤ length (ts .layers)
+          layers-long = omega (arith, twice)
 
-        pub all-long : stretch ≤ length (ts .output) → Enough ≡ verdict
-        all-long l =
-            let plans : plansLength (jobIn task) (task .capacity) ≤ length (ts .plans) = rw is at plans-room in
-            let output : planLength (jobIn task) ≤ length (ts .output) = rw is at l in
-            suffices (jobIn task) (task .capacity) ts (record { columns = columns-room; plans = plans; layers = layers-room; output = output })
+          pub short-output : length (ts .output) < stretch → Lacking 3 stretch ≡ verdict
+          short-output l =
+              let k : length (ts .output) < planLength (jobIn task) = rw is at l in
+              lacking (jobIn task) (task .capacity) ts 3 stretch (record { short = k; first = one-more (jobIn task) (task .capacity) ts 2 two layers-long }) is
+
+          pub all-long : stretch ≤ length (ts .output) → Enough ≡ verdict
+          all-long l =
+              let plans : plansLength (jobIn task) (task .capacity) ≤ length (ts .plans) = rw is at plans-room in
+              let output : planLength (jobIn task) ≤ length (ts .output) = rw is at l in
+              suffices (jobIn task) (task .capacity) ts (record { columns = columns-room; plans = plans; layers = layers-long; output = output })
 
   -- no table is too short
   long-by : (o : Option ℕ) → Enough ≡ lengthsOf (neededLength (jobIn task) (task .capacity)) o → o ≡ none
@@ -168,6 +172,7 @@ module _ (task : Task) (bytes : List ℕ) (v : Verdict) (wrongN : Bool) (is : v 
         capacity-least = capacity-exact (task .capacity) .0 (f .capacity) .least;
         capacity-most = capacity-exact (task .capacity) .0 (f .capacity) .most;
         starts-inside = λ i l. open-exact (jobOn task bytes) (getD (task .team .starts) i 0) .0 (f .startOpen i l) .inside;
+        goals-inside = λ i l. open-exact (jobOn task bytes) (getD (task .team .goals) i 0) .0 (f .goalOpen i l) .inside;
         layers-long = room;
       }
 

@@ -10,7 +10,7 @@ use Rattle.job.specs.Job.{wrongLimits, wrongCapacity, wrongCount, wrongEnds, fi
 use Rattle.job.specs.Verdict.{endsVerdict, sharedVerdict, judgeWith, ifAccepted}
 use Rattle.routes.specs.Route.{stepCost, cost}
 use Rattle.routes.specs.Bars.{barsFor, barsCell, barsWay, mayStand, mayTurn}
-use Rattle.routes.specs.Best.{cheaper, better, bestOf, inFront, bestWay, bestRoute}
+use Rattle.routes.specs.Best.{moved, moves, outdone, preferred, better, bestOf, inFront, bestWay, bestRoute}
 use Rattle.clashes.specs.Chosen.{written, meets, swaps, happens, overPairs, atStep, candidates, orClear, chosen}
 use Rattle.search.specs.Search.{prefer, takeLeast, run, search}
 use Rattle.tree.specs.Plan.{total}
@@ -20,7 +20,7 @@ use Rattle.planner.specs.Answer.{searched, ifLong, enough, planned}
 use Rattle.planner.specs.Stars.{asked, given, stars, lastJob}
 
 worked-hold : map given (lastJob ∷ stars) ≡ map asked (lastJob ∷ stars)
-unfolding range sumTo only keep anyOf firstOf each wrongSide wrongGrid wrongByte wrongBytes isOpen onGrid cellAt landing reachFrom reach wrongLimits wrongCapacity wrongCount wrongEnds firstWrong share pairs firstShared refuseIf endsVerdict sharedVerdict judgeWith ifAccepted stepCost cost barsFor barsCell barsWay mayStand mayTurn cheaper better bestOf inFront bestWay bestRoute written meets swaps happens overPairs atStep candidates orClear chosen prefer takeLeast run search total firstShort zeroed workedOn planWritten withPlan routeUnder withRoute freeRoutes rootOf root nodeSum clashOf isClear nodeClear barOne barTwo childWith child kidsFor kids tree searched ifLong enough planned stars lastJob
+unfolding range sumTo only keep anyOf firstOf each wrongSide wrongGrid wrongByte wrongBytes isOpen onGrid cellAt landing reachFrom reach wrongLimits wrongCapacity wrongCount wrongEnds firstWrong share pairs firstShared refuseIf endsVerdict sharedVerdict judgeWith ifAccepted stepCost cost barsFor barsCell barsWay mayStand mayTurn moved moves outdone preferred better bestOf inFront bestWay bestRoute written meets swaps happens overPairs atStep candidates orClear chosen prefer takeLeast run search total firstShort zeroed workedOn planWritten withPlan routeUnder withRoute freeRoutes rootOf root nodeSum clashOf isClear nodeClear barOne barTwo childWith child kidsFor kids tree searched ifLong enough planned stars lastJob
 worked-hold = refl
 
 pub stars-hold : map given stars ≡ map asked stars

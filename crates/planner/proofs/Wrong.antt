@@ -17,7 +17,7 @@ use Rattle.job.specs.declared.Verdict.the-variants.{SharedGoal}
 use Rattle.job.proofs.Due.{due-sixteen}
 use Rattle.routes.specs.Route.{stepCost, cost}
 use Rattle.routes.specs.Bars.{barsFor, mayStand, mayTurn}
-use Rattle.routes.specs.Best.{cheaper, better, bestOf, inFront, bestWay, bestRoute}
+use Rattle.routes.specs.Best.{moved, moves, outdone, preferred, better, bestOf, inFront, bestWay, bestRoute}
 use Rattle.clashes.specs.Chosen.{written, meets, swaps, happens, overPairs, atStep, candidates, orClear, chosen}
 use Rattle.search.specs.Search.{prefer, takeLeast, run, search}
 use Rattle.tree.specs.Plan.{total}
@@ -59,14 +59,20 @@ standing =
     }
 
 abbrev lent : Tables
-lent = record { columns = 0 ∷ 0 ∷ 0 ∷ 0 ∷ 0 ∷ 0 ∷ 0 ∷ 0 ∷ []; plans = 0 ∷ []; layers = 0 ∷ 0 ∷ []; output = 0 ∷ [] }
+lent = record { columns = 0 ∷ 0 ∷ 0 ∷ 0 ∷ 0 ∷ 0 ∷ 0 ∷ 0 ∷ []; plans = 0 ∷ []; layers = 7 ∷ 7 ∷ 7 ∷ 7 ∷ []; output = 0 ∷ [] }
 
 -- the layer of the last step not cleared: the mark of 'no way' is left on cell 1
-pub last-layer-not-cleared : (r : Result) → r ≡ planned standing 1 lent → getD (r .tables .layers) 1 0 ≡ 127 → ⊥
-unfolding range sumTo only keep anyOf firstOf each wrongSide wrongGrid wrongByte wrongBytes isOpen onGrid cellAt landing reachFrom reach wrongLimits wrongCapacity wrongCount wrongEnds firstWrong share pairs firstShared refuseIf endsVerdict sharedVerdict judgeWith ifAccepted stepCost cost barsFor mayStand mayTurn cheaper better bestOf inFront bestWay bestRoute written meets swaps happens overPairs atStep candidates orClear chosen prefer takeLeast run search total firstShort zeroed workedOn planWritten withPlan routeUnder withRoute freeRoutes rootOf root nodeSum clashOf isClear nodeClear tree searched ifLong enough planned
-last-layer-not-cleared r e wrong = let z : _≡_ {A = ℕ} 127 0 = sym wrong ∙ ap (λ (x : Result). getD (x .tables .layers) 1 0) e in omega arith
+pub last-layer-not-cleared : (r : Result) → r ≡ planned standing 1 lent → getD (r .tables .layers) 1 0 ≡ 255 → ⊥
+unfolding range sumTo only keep anyOf firstOf each wrongSide wrongGrid wrongByte wrongBytes isOpen onGrid cellAt landing reachFrom reach wrongLimits wrongCapacity wrongCount wrongEnds firstWrong share pairs firstShared refuseIf endsVerdict sharedVerdict judgeWith ifAccepted stepCost cost barsFor mayStand mayTurn moved moves outdone preferred better bestOf inFront bestWay bestRoute written meets swaps happens overPairs atStep candidates orClear chosen prefer takeLeast run search total firstShort zeroed workedOn planWritten withPlan routeUnder withRoute freeRoutes rootOf root nodeSum clashOf isClear nodeClear tree searched ifLong enough planned
+last-layer-not-cleared r e wrong = let z : _≡_ {A = ℕ} 255 0 = sym wrong ∙ ap (λ (x : Result). getD (x .tables .layers) 1 0) e in omega arith
 
--- ---- 7, of two open cells in a row, one carrier, 0→1, k 0, H 1, N 3: the columns need 24 entries, the plans 6, the layers 4, the output 2
+-- 'twice its length' not cleared: what was lent is left in the second half
+pub second-half-not-cleared : (r : Result) → r ≡ planned standing 1 lent → getD (r .tables .layers) 2 0 ≡ 7 → ⊥
+unfolding range sumTo only keep anyOf firstOf each wrongSide wrongGrid wrongByte wrongBytes isOpen onGrid cellAt landing reachFrom reach wrongLimits wrongCapacity wrongCount wrongEnds firstWrong share pairs firstShared refuseIf endsVerdict sharedVerdict judgeWith ifAccepted stepCost cost barsFor mayStand mayTurn moved moves outdone preferred better bestOf inFront bestWay bestRoute written meets swaps happens overPairs atStep candidates orClear chosen prefer takeLeast run search total firstShort zeroed workedOn planWritten withPlan routeUnder withRoute freeRoutes rootOf root nodeSum clashOf isClear nodeClear tree searched ifLong enough planned
+second-half-not-cleared r e wrong = let z : _≡_ {A = ℕ} 7 0 = sym wrong ∙ ap (λ (x : Result). getD (x .tables .layers) 2 0) e in omega arith
+
+-- ---- 7, of two open cells in a row, one carrier, 0→1, k 0, H 1, N 3: the columns need 24 entries, the plans 6, the layers 8, the output
+-- 2
 
 abbrev passing : Job
 passing =
@@ -89,19 +95,29 @@ unfolding range anyOf firstOf each wrongSide wrongGrid wrongByte wrongBytes isOp
 last-short-told r e wrong = let z : _≡_ {A = ℕ} 3 0 = sym wrong ∙ ap (λ (x : Result). answerTold (x .answer) .table) e in omega arith
 
 -- the columns' length told in bytes: they are 16-bit
-pub columns-told-in-bytes : (r : Result) → r ≡ planned passing 3 (zeros 23 6 4 2) → answerTold (r .answer) .needed ≡ 48 → ⊥
+pub columns-told-in-bytes : (r : Result) → r ≡ planned passing 3 (zeros 23 6 8 2) → answerTold (r .answer) .needed ≡ 48 → ⊥
 unfolding range anyOf firstOf each wrongSide wrongGrid wrongByte wrongBytes isOpen wrongLimits wrongCapacity wrongCount wrongEnds firstWrong share pairs firstShared refuseIf endsVerdict sharedVerdict judgeWith ifAccepted firstShort ifLong enough planned
 columns-told-in-bytes r e wrong = let z : _≡_ {A = ℕ} 48 24 = sym wrong ∙ ap (λ (x : Result). answerTold (x .answer) .needed) e in omega arith
 
 -- the length of another table, of the layers for the plans
-pub layers-length-told-for-the-plans : (r : Result) → r ≡ planned passing 3 (zeros 24 5 4 2) → answerTold (r .answer) .needed ≡ 4 → ⊥
+pub layers-length-told-for-the-plans : (r : Result) → r ≡ planned passing 3 (zeros 24 5 8 2) → answerTold (r .answer) .needed ≡ 8 → ⊥
 unfolding range anyOf firstOf each wrongSide wrongGrid wrongByte wrongBytes isOpen wrongLimits wrongCapacity wrongCount wrongEnds firstWrong share pairs firstShared refuseIf endsVerdict sharedVerdict judgeWith ifAccepted firstShort ifLong enough planned
-layers-length-told-for-the-plans r e wrong = let z : _≡_ {A = ℕ} 4 6 = sym wrong ∙ ap (λ (x : Result). answerTold (x .answer) .needed) e in omega arith
+layers-length-told-for-the-plans r e wrong = let z : _≡_ {A = ℕ} 8 6 = sym wrong ∙ ap (λ (x : Result). answerTold (x .answer) .needed) e in omega arith
 
 -- the output's length without the + 1 of H
-pub last-step-not-counted : (r : Result) → r ≡ planned passing 3 (zeros 24 6 4 1) → answerTold (r .answer) .needed ≡ 1 → ⊥
+pub last-step-not-counted : (r : Result) → r ≡ planned passing 3 (zeros 24 6 8 1) → answerTold (r .answer) .needed ≡ 1 → ⊥
 unfolding range anyOf firstOf each wrongSide wrongGrid wrongByte wrongBytes isOpen wrongLimits wrongCapacity wrongCount wrongEnds firstWrong share pairs firstShared refuseIf endsVerdict sharedVerdict judgeWith ifAccepted firstShort ifLong enough planned
 last-step-not-counted r e wrong = let z : _≡_ {A = ℕ} 1 2 = sym wrong ∙ ap (λ (x : Result). answerTold (x .answer) .needed) e in omega arith
+
+-- layers of document 01's length, which P2 doubles, taken for long enough
+pub old-length-of-the-layers-taken : (r : Result) → r ≡ planned passing 3 (zeros 24 6 4 2) → answerTold (r .answer) .number ≡ 0 → ⊥
+unfolding range anyOf firstOf each wrongSide wrongGrid wrongByte wrongBytes isOpen wrongLimits wrongCapacity wrongCount wrongEnds firstWrong share pairs firstShared refuseIf endsVerdict sharedVerdict judgeWith ifAccepted firstShort ifLong enough planned
+old-length-of-the-layers-taken r e wrong = let z : _≡_ {A = ℕ} 0 7 = sym wrong ∙ ap (λ (x : Result). answerTold (x .answer) .number) e in omega arith
+
+-- that length told
+pub old-length-of-the-layers-told : (r : Result) → r ≡ planned passing 3 (zeros 24 6 3 2) → answerTold (r .answer) .needed ≡ 4 → ⊥
+unfolding range anyOf firstOf each wrongSide wrongGrid wrongByte wrongBytes isOpen wrongLimits wrongCapacity wrongCount wrongEnds firstWrong share pairs firstShared refuseIf endsVerdict sharedVerdict judgeWith ifAccepted firstShort ifLong enough planned
+old-length-of-the-layers-told r e wrong = let z : _≡_ {A = ℕ} 4 8 = sym wrong ∙ ap (λ (x : Result). answerTold (x .answer) .needed) e in omega arith
 
 -- 7 given before 16: no table is lent to two carriers with one goal
 abbrev meeting : Job

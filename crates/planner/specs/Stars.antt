@@ -1,5 +1,6 @@
 -- Document 01, 'Jobs worked by hand': the eleven marked ★ for proof, one table. The law `stars-hold` is the claim.
--- 'Cells all open; k is 0 and N is 128 where not given'.
+-- 'Cells all open; k is 0 and N is 128 where not given'. Document 02, P2: 'The 3 by 3 job with k 1 becomes 3 3 3 4 5 and 1 4 7 7 7, sum 6,
+-- 3 records.'
 use Prim.Native.Nat.{ℕ, _*_}
 use mathlib.Core.List.{List, [], _∷_}
 use lib.ListN.{length, getD, replicate}
@@ -73,7 +74,7 @@ unfolding star
 stars =
     star 3 3 (3 ∷ 1 ∷ []) (5 ∷ 7 ∷ []) 0 4 3 (counted 0 5 3) ((3 ∷ 3 ∷ 4 ∷ 5 ∷ 5 ∷ []) ∷ (1 ∷ 4 ∷ 7 ∷ 7 ∷ 7 ∷ []) ∷ [])
     ∷ star 3 3 (3 ∷ 1 ∷ []) (5 ∷ 7 ∷ []) 0 4 2 (counted 9 0 2) []
-    ∷ star 3 3 (3 ∷ 1 ∷ []) (5 ∷ 7 ∷ []) 1 4 3 (counted 0 6 3) ((3 ∷ 0 ∷ 1 ∷ 2 ∷ 5 ∷ []) ∷ (1 ∷ 4 ∷ 7 ∷ 7 ∷ 7 ∷ []) ∷ [])
+    ∷ star 3 3 (3 ∷ 1 ∷ []) (5 ∷ 7 ∷ []) 1 4 3 (counted 0 6 3) ((3 ∷ 3 ∷ 3 ∷ 4 ∷ 5 ∷ []) ∷ (1 ∷ 4 ∷ 7 ∷ 7 ∷ 7 ∷ []) ∷ [])
     ∷ star 3 1 (0 ∷ []) (2 ∷ []) 0 2 128 (counted 0 2 1) ((0 ∷ 1 ∷ 2 ∷ []) ∷ [])
     ∷ star 3 1 (0 ∷ []) (2 ∷ []) 0 1 128 (counted 8 0 0) []
     ∷ star 3 1 (0 ∷ 2 ∷ []) (2 ∷ 0 ∷ []) 0 2 128 (counted 8 0 1) []
@@ -87,4 +88,4 @@ stars =
 -- The last job of the same section has no star and no printed routes: 'Width 4, height 2, 6→2 and 0→3, k 0, H 3: least sum 6.'
 unfoldable pub lastJob : Star
 unfolding star
-lastJob = star 4 2 (6 ∷ 0 ∷ []) (2 ∷ 3 ∷ []) 0 3 128 (counted 0 6 4) ((6 ∷ 2 ∷ 6 ∷ 2 ∷ []) ∷ (0 ∷ 1 ∷ 2 ∷ 3 ∷ []) ∷ [])
+lastJob = star 4 2 (6 ∷ 0 ∷ []) (2 ∷ 3 ∷ []) 0 3 128 (counted 0 6 2) ((6 ∷ 6 ∷ 6 ∷ 2 ∷ []) ∷ (0 ∷ 1 ∷ 2 ∷ 3 ∷ []) ∷ [])

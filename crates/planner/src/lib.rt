@@ -296,6 +296,14 @@ fn tell(task: Task, end: End, plans: &[u8], output: &mut [u8]) -> Answer
     }
 }
 
+// The length of the layers. Document 02, P2: 'The layers table needs twice its length', which was (H + 1) × width × height.
+fn layers_of(task: Task) -> usize
+    requires { ⌜ Limits task ⌝ }
+    ensures { λ r. ⌜ r ≡ layersLength (jobIn task) ⌝ }
+{
+    2 * ((task.horizon + 1) * (task.width * task.height))
+}
+
 // 'After 0, 8 and 9 the named least lengths of the first three tables are all zero and the rest unchanged.'
 fn clear_all(task: Task, columns: &mut [u16], plans: &mut [u8], layers: &mut [u8])
     requires { ⌜ Limits task ⌝ ∗ ⌜ (columnsLength (task .capacity) ≤ length (now columns)) × (plansLength (jobIn task) (task .capacity) ≤ length (now plans)) × (layersLength (jobIn task) ≤ length (now layers)) ⌝ }
@@ -304,7 +312,7 @@ fn clear_all(task: Task, columns: &mut [u16], plans: &mut [u8], layers: &mut [u8
     let capacity = task.capacity;
     lent::clear_words(columns, tables::COLUMNS * capacity);
     lent::clear_bytes(plans, capacity * children::stretch_of(task));
-    lent::clear_bytes(layers, (task.horizon + 1) * (task.width * task.height));
+    lent::clear_bytes(layers, layers_of(task));
 }
 
 // The search, what is told of its end, and the tables cleared.
@@ -345,7 +353,7 @@ fn first_short(task: Task, columns: &[u16], plans: &[u8], layers: &[u8], output:
     if plans.len() < needed {
         return Lengths::Lacking { table: 1, needed };
     }
-    let needed = (task.horizon + 1) * (task.width * task.height);
+    let needed = layers_of(task);
     if layers.len() < needed {
         return Lengths::Lacking { table: 2, needed };
     }

@@ -1,28 +1,30 @@
--- Document 01's broken planners and checks, and P1's wrong refusals: none keeps the promise that the document names for it. Each law
+-- Document 01's broken planners and checks, P1's wrong refusals and the planner that P2 mends: none keeps the promise that the document names for it. Each law
 -- takes any planner, or any two checks, and that one line of specs/Promises.antt; nothing is known of how they work. What the line
 -- says at a worked job is read off our own planner, which keeps it (proofs/Kept.antt) and whose answer there is known (`stars-hold`).
 -- Assumes nothing.
-use Prim.Native.Nat.{ℕ, _<_}
+use Prim.Native.Nat.{ℕ, _+_, _*_, _≤_, _<_}
 use native.Mathlib.Omega.{arith}
 use mathlib.Core.Path.{_≡_, refl, sym, ap, subst, _∙_}
-use mathlib.Core.List.{List, [], List·Memᴰ}
+use mathlib.Core.List.{List, _∷_, [], List·Memᴰ}
 use mathlib.Core.Logic.{_⊎_, inl, inr}
-use mathlib.Core.Option.{none}
+use native.Mathlib.Decide.{decLe}
+use mathlib.Core.Option.{Option, none, some}
 use lib.ListN.{length, getD}
 use Rattle.lists.specs.Lists.{range, sumTo, only, keep, anyOf, firstOf, each, Every, refuseIf}
 use Rattle.lists.proofs.Every.{every-member}
-use Rattle.hall.specs.Hall.{wrongSide, wrongGrid, wrongByte, wrongBytes, isOpen}
+use Rattle.lent.proofs.Keeping.{zeroed-zero}
+use Rattle.hall.specs.Hall.{size, wrongSide, wrongGrid, wrongByte, wrongBytes, isOpen}
 use Rattle.hall.specs.Moves.{onGrid, cellAt, landing, reachFrom, reach, mayFollow}
 use Rattle.job.specs.Job.{Job, planLength, planCell, wrongLimits, wrongCapacity, wrongCount, wrongEnds, firstWrong, share, pairs, firstShared}
 use Rattle.job.specs.Due.{RightJob, RightCapacity, NoneShare, Due}
-use Rattle.job.specs.Told.{bare, tooShort}
+use Rattle.job.specs.Told.{counted, bare, tooShort}
 use Rattle.job.specs.Verdict.{endsVerdict, sharedVerdict, judgeWith, judge, ifAccepted}
 use Rattle.job.specs.declared.Fault.{Fault}
 use Rattle.job.specs.declared.Told.{Told}
 use Rattle.job.specs.declared.Verdict.the-variants.{Accepted}
 use Rattle.routes.specs.Route.{stepCost, cost}
 use Rattle.routes.specs.Bars.{barsFor, barsCell, barsWay, mayStand, mayTurn}
-use Rattle.routes.specs.Best.{cheaper, better, bestOf, inFront, bestWay, bestRoute}
+use Rattle.routes.specs.Best.{preferred, outdone, moves, moved, better, bestOf, inFront, bestWay, bestRoute}
 use Rattle.routes.specs.Check.{wrongMove, wrongArrival, wrongAt, places, firstWrongPlace, placeVerdict, planVerdict, routeVerdict, routeTold}
 use Rattle.clashes.specs.Check.{planClash, compared, meetingVerdict, meetingTold}
 use Rattle.clashes.specs.Chosen.{written, meets, swaps, happens, overPairs, atStep, candidates, orClear, chosen}
@@ -31,14 +33,14 @@ use Rattle.checks.proofs.Broken.{crossing, followed, oneCell, standing, always-
 use Rattle.checks.proofs.Demand.{plan-check-exact, zero-is-lawful, zero-is-safe}
 use Rattle.tree.specs.Tree.{Node, routeUnder, withRoute, freeRoutes, rootOf, root, clashOf, barOne, barTwo, childWith, child, kidsFor, kids}
 use Rattle.tree.proofs.Promises.{need-one}
-use Rattle.tables.specs.Tables.{Tables, neededLength, firstShort, FirstShort, planWritten}
+use Rattle.tables.specs.Tables.{Tables, layersLength, neededLength, firstShort, FirstShort, planWritten}
 use Rattle.tables.proofs.LongTables.{short-not-long, long-exact, short-one}
 use Rattle.planner.specs.Answer.{planned}
-use Rattle.planner.specs.Stars.{Star, starJob, starTables, Seen, asked, given, stars, lastJob}
+use Rattle.planner.specs.Stars.{Star, starJob, starTables, Seen, asked, given, stars}
 use Rattle.planner.proofs.Promises.{planned-promised}
 use Rattle.planner.proofs.Stars.{stars-hold}
 use Rattle.job.proofs.Due.{accepted-exactly, checks-accept-exactly, due-six, due-sixteen}
-use Rattle.promises.specs.Promises.{Planner, Check, Runs, RefusesFirst, ShortIsSeven, TablesLeft, ZeroIsLeast, EightIsNone, NineByNeed, CheckIsExact, ShortPlanIsSeven}
+use Rattle.promises.specs.Promises.{Planner, Check, Runs, RefusesFirst, ShortIsSeven, TablesLeft, ZeroIsLeast, EightIsNone, ByNeed, NineByNeed, CheckIsExact, ShortPlanIsSeven}
 use Rattle.promises.specs.Ours.{OurPlanner}
 use Rattle.promises.proofs.Kept.{zero-is-least, nine-by-need}
 use Rattle.promises.proofs.Passing.{same-cells, written-passes}
@@ -86,9 +88,24 @@ runs-seventh : RunsAt (starAt 6)
 unfolding range anyOf firstOf each wrongSide wrongGrid wrongByte wrongBytes isOpen wrongLimits wrongCapacity wrongCount wrongEnds firstWrong share pairs firstShared refuseIf endsVerdict sharedVerdict judgeWith firstShort stars
 runs-seventh = runs-by (starAt 6) refl refl
 
-runs-last : RunsAt lastJob
-unfolding range anyOf firstOf each wrongSide wrongGrid wrongByte wrongBytes isOpen wrongLimits wrongCapacity wrongCount wrongEnds firstWrong share pairs firstShared refuseIf endsVerdict sharedVerdict judgeWith firstShort lastJob
-runs-last = runs-by lastJob refl refl
+-- two carriers change places on four cells: 2 by 2, 0→1 and 1→0, k 0, H 3
+abbrev exchange : Star
+exchange =
+    record {
+      width = 2;
+      height = 2;
+      starts = 0 ∷ 1 ∷ [];
+      goals = 1 ∷ 0 ∷ [];
+      delay = 0;
+      horizon = 3;
+      capacity = 128;
+      told = counted 0 4 15;
+      routes = (0 ∷ 2 ∷ 3 ∷ 1 ∷ []) ∷ (1 ∷ 0 ∷ 0 ∷ 0 ∷ []) ∷ [];
+    }
+
+runs-exchange : RunsAt exchange
+unfolding range anyOf firstOf each wrongSide wrongGrid wrongByte wrongBytes isOpen wrongLimits wrongCapacity wrongCount wrongEnds firstWrong share pairs firstShared refuseIf endsVerdict sharedVerdict judgeWith firstShort
+runs-exchange = runs-by exchange refl refl
 
 -- ---- what our planner tells there
 
@@ -200,28 +217,28 @@ module _ (f : Function) (keeps : ZeroIsLeast (by f)) where
 
 -- ---- 'one that grows the root's children and then only pretends (demand 2's least sum, demand 3's holds)'
 
--- the root of document 01's last job has one child (child two has no route), and there the two carriers exchange cells
+-- where two carriers change places on four cells, each child of the root still has a meeting or a swap
 abbrev children : List Node
-children = each (kids (starJob lastJob)) (root (starJob lastJob))
+children = each (kids (starJob exchange)) (root (starJob exchange))
 
 abbrev handedBack : Node → List ℕ
-handedBack kid = planWritten (starJob lastJob) (kid .routes) (starTables lastJob .output)
+handedBack kid = planWritten (starJob exchange) (kid .routes) (starTables exchange .output)
 
-children-meet : Every (λ kid. meetingTold (meetingVerdict (starJob lastJob) (handedBack kid)) .number ≡ 22) children
-unfolding range sumTo only keep anyOf firstOf each Every wrongSide wrongGrid wrongByte wrongBytes isOpen onGrid cellAt landing reachFrom reach wrongLimits wrongCount wrongEnds firstWrong share pairs firstShared refuseIf endsVerdict sharedVerdict judgeWith judge ifAccepted stepCost cost barsFor barsCell barsWay mayStand mayTurn cheaper better bestOf inFront bestWay bestRoute written meets swaps happens overPairs atStep candidates orClear chosen planClash compared meetingVerdict planWritten routeUnder withRoute freeRoutes rootOf root clashOf barOne barTwo childWith child kidsFor kids lastJob
-children-meet = (refl, tt)
+children-meet : Every (λ kid. meetingTold (meetingVerdict (starJob exchange) (handedBack kid)) .number ≡ 22) children
+unfolding range sumTo only keep anyOf firstOf each Every wrongSide wrongGrid wrongByte wrongBytes isOpen onGrid cellAt landing reachFrom reach wrongLimits wrongCount wrongEnds firstWrong share pairs firstShared refuseIf endsVerdict sharedVerdict judgeWith judge ifAccepted stepCost cost barsFor barsCell barsWay mayStand mayTurn preferred outdone moves moved better bestOf inFront bestWay bestRoute written meets swaps happens overPairs atStep candidates orClear chosen planClash compared meetingVerdict planWritten routeUnder withRoute freeRoutes rootOf root clashOf barOne barTwo childWith child kidsFor kids
+children-meet = (refl, (refl, tt))
 
 -- so to hand back the routes of one, with whatever records, contradicts 'apart'
-pub only-children-grown : (f : Function) → ZeroIsLeast (by f) → (kid : Node) → List·Memᴰ kid children → at f lastJob .told .number ≡ 0 → at f lastJob .after .output ≡ handedBack kid → ⊥
+pub only-children-grown : (f : Function) → ZeroIsLeast (by f) → (kid : Node) → List·Memᴰ kid children → at f exchange .told .number ≡ 0 → at f exchange .after .output ≡ handedBack kid → ⊥
 unfolding ZeroIsLeast
 only-children-grown f keeps kid member zero back =
-    let (rs, given) = keeps (starJob lastJob) (lastJob .capacity) (starTables lastJob) (at f lastJob .told) (at f lastJob .after) (refl, refl) zero in
-    let passes : Passes (starJob lastJob) (planWritten (starJob lastJob) rs (starTables lastJob .output)) =
-    written-passes (starJob lastJob) rs (given .plan) (starTables lastJob .output) (checks-accept-exactly (starJob lastJob) .1 (runs-last .right)) in
-    let clear : meetingTold (meetingVerdict (starJob lastJob) (handedBack kid)) .number ≡ 0 =
-    subst (λ (l : List ℕ). meetingTold (meetingVerdict (starJob lastJob) l) .number ≡ 0) (sym (given .written) ∙ back) (passes .meetings) in
-    let meet : meetingTold (meetingVerdict (starJob lastJob) (handedBack kid)) .number ≡ 22 =
-    every-member (λ k. meetingTold (meetingVerdict (starJob lastJob) (handedBack k)) .number ≡ 22) children children-meet member in
+    let (rs, given) = keeps (starJob exchange) (exchange .capacity) (starTables exchange) (at f exchange .told) (at f exchange .after) (refl, refl) zero in
+    let passes : Passes (starJob exchange) (planWritten (starJob exchange) rs (starTables exchange .output)) =
+    written-passes (starJob exchange) rs (given .plan) (starTables exchange .output) (checks-accept-exactly (starJob exchange) .1 (runs-exchange .right)) in
+    let clear : meetingTold (meetingVerdict (starJob exchange) (handedBack kid)) .number ≡ 0 =
+    subst (λ (l : List ℕ). meetingTold (meetingVerdict (starJob exchange) l) .number ≡ 0) (sym (given .written) ∙ back) (passes .meetings) in
+    let meet : meetingTold (meetingVerdict (starJob exchange) (handedBack kid)) .number ≡ 22 =
+    every-member (λ k. meetingTold (meetingVerdict (starJob exchange) (handedBack k)) .number ≡ 22) children children-meet member in
     let z : _≡_ {A = ℕ} 0 22 = sym clear ∙ meet in
     omega (arith, z)
 
@@ -310,3 +327,43 @@ module _ (r m : Job → List ℕ → Fault) (keeps : ShortPlanIsSeven (byCheck r
   other-plan-length-told other =
       let (x, y) = keeps job plan (r job plan) (m job plan) refl refl right short in
       other (ap (λ (g : Fault). g .needed) x, ap (λ (g : Fault). g .needed) y)
+
+-- ---- P2: 'A carrier that must lose two steps circles through other aisles'
+
+-- two planners that keep the line and give a plan give one plan
+plan-same : (job : Job) (n : ℕ) (before : Tables) (need : ℕ) (end : Option Node) (told told′ : Told) (after after′ : Tables) → ByNeed job n before need end told after → ByNeed job n before need end told′ after′ → told′ .number ≡ 0 → after .output ≡ after′ .output
+plan-same job n before need end told told′ after after′ b b′ zero = go (decLe need n) end refl
+  where
+    go : Dec (need ≤ n) → (o : Option Node) → end ≡ o → after .output ≡ after′ .output
+    go (yes l) none e = let k : told′ .number ≡ 8 = b′ .none-left l e in absurd (omega arith)
+    go (yes l) (some node) e = b .plan l node e .1 ∙ sym (b′ .plan l node e .1)
+    go (no l) o e = let k : told′ .number ≡ 9 = b′ .under (omega (arith, l)) .0 in absurd (omega arith)
+
+third-given : given (starAt 2) ≡ asked (starAt 2)
+unfolding stars
+third-given = ap (λ (l : List Seen). getD l 2 nothing) stars-hold
+
+runs-third : RunsAt (starAt 2)
+unfolding range anyOf firstOf each wrongSide wrongGrid wrongByte wrongBytes isOpen wrongLimits wrongCapacity wrongCount wrongEnds firstWrong share pairs firstShared refuseIf endsVerdict sharedVerdict judgeWith firstShort stars
+runs-third = runs-by (starAt 2) refl refl
+
+-- the 3 by 3 job with k 1: carrier 0 goes up from its start, as it did before P2
+pub wanders : (f : Function) → NineByNeed (by f) → getD (at f (starAt 2) .after .output) 1 9 ≡ 0 → ⊥
+unfolding NineByNeed stars each
+wanders f keeps up =
+    let s = starAt 2 in
+    let (need, end, is, told-by) = keeps (starJob s) in
+    let (need′, end′, is′, told-by′) = nine-by-need (starJob s) in
+    let (same, same-end) = need-one (starJob s) need′ need end′ end is′ is in
+    let b = told-by (s .capacity) (starTables s) (at f s .told) (at f s .after) (refl, refl) runs-third in
+    let b′ = told-by′ (s .capacity) (starTables s) (given s .told) (planned (starJob s) (s .capacity) (starTables s) .tables) (ours s) runs-third in
+    let e = plan-same (starJob s) (s .capacity) (starTables s) need end (at f s .told) (given s .told) (at f s .after) (planned (starJob s) (s .capacity) (starTables s) .tables) b (rw (same, same-end) at b′) (ap (λ (x : Seen). x .told .number) third-given) in
+    let three : _≡_ {A = ℕ} 0 3 = sym up ∙ ap (λ (l : List ℕ). getD l 1 9) (e ∙ ap (λ (x : Seen). x .output) third-given) in
+    omega (arith, three)
+
+-- the second half of the layers, or any other part of their least length, not cleared: at every job
+pub layers-not-cleared : (g : Planner) → TablesLeft g → (job : Job) (n : ℕ) (before : Tables) (told : Told) (after : Tables) → g job n before told after → Runs job n before
+    → (x : ℕ) → x < 2 * ((job .horizon + 1) * size (job .hall)) → (getD (after .layers) x 0 ≡ 0 → ⊥) → ⊥
+unfolding TablesLeft
+layers-not-cleared g keeps job n before told after p runs x h left =
+    left (ap (λ (l : List ℕ). getD l x 0) (keeps job n before told after p runs .layers) ∙ zeroed-zero (layersLength job) x (before .layers) h)

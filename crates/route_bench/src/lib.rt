@@ -1,11 +1,13 @@
 // The best route of a carrier as a C function, for the benchmark: its arguments are looked at here, so that any may be handed in.
+use hall::Grid;
 use layers::Sought;
+use layers::Trip;
+use marks::Bound;
 use routes::Bar;
 ghost use Prim.Native.Nat.{_*_, _≤_, _<_};
 ghost use lib.ListN.{length};
 ghost use Rattle.records.specs.Columns.{Falls};
-ghost use Rattle.layers.specs.Fill.{lentHall};
-ghost use Rattle.route_bench.specs.Answer.{Tells, RightFloor, RightRoom, RightArguments, barsAt, Told, Answered};
+ghost use Rattle.route_bench.specs.Answer.{Tells, RightFloor, RightRoom, RightArguments, hallOf, barsAt, Told, Answered};
 
 // The cost that stands for 'no route', and for arguments that are not right.
 const NO_ROUTE: usize = 255;
@@ -14,11 +16,8 @@ const REFUSED: usize = 254;
 
 const COLUMN_COUNT: usize = 8;
 
-// One more than the greatest cell number.
-const CELLS: usize = 256;
-
-fn right_floor(hall: &[u8], width: usize, height: usize, start: usize) -> bool
-    ensures { λ r. ⌜ Tells (RightFloor (now (hall .entry)) width height start) r ⌝ }
+fn right_floor(hall: &[u8], width: usize, height: usize, start: usize, goal: usize) -> bool
+    ensures { λ r. ⌜ Tells (RightFloor (now (hall .entry)) width height start goal) r ⌝ }
 {
     if width < 1 {
         return false;
@@ -32,10 +31,14 @@ fn right_floor(hall: &[u8], width: usize, height: usize, start: usize) -> bool
     if hall::MOST_SIDE < height {
         return false;
     }
-    if hall.len() != width * height {
+    let size = width * height;
+    if hall.len() != size {
         return false;
     }
-    start < width * height
+    if size <= goal {
+        return false;
+    }
+    start < size
 }
 
 // Does each node from 1 to `node` have a parent of a smaller number?
@@ -75,7 +78,7 @@ fn right_room(size: usize, h: usize, layers: &[u8], stretch: &[u8]) -> bool
     if job::MOST_HORIZON < h {
         return false;
     }
-    if layers.len() < (h + 1) * size {
+    if layers.len() < 2 * ((h + 1) * size) {
         return false;
     }
     stretch.len() == h + 1
@@ -96,10 +99,7 @@ fn right_arguments(
 ) -> bool
     ensures { λ r. ⌜ Tells (RightArguments (now (hall .entry)) width height start goal h (now (columns .entry)) capacity node (now (layers .entry)) (now (stretch .entry))) r ⌝ }
 {
-    if !right_floor(hall, width, height, start) {
-        return false;
-    }
-    if CELLS <= goal {
+    if !right_floor(hall, width, height, start, goal) {
         return false;
     }
     if !right_records(columns, capacity, node) {
@@ -108,8 +108,8 @@ fn right_arguments(
     right_room(width * height, h, layers, stretch)
 }
 
-// Document 01, rule 2: the cost of the best route under the bars that bind a carrier at a node, and the route in the stretch; 255 where
-// there is none.
+// Rule 2, as document 02, P2, has it: the cost of the best route under the bars that bind a carrier at a node, and the route in the
+// stretch; 255 where there is none.
 fn best_route(
     hall: &[u8],
     width: usize,
@@ -125,40 +125,26 @@ fn best_route(
     stretch: &mut [u8],
 ) -> usize
     requires { ⌜ RightArguments (now hall) width height start goal h (now columns) capacity node (now layers) (now stretch) ⌝ }
-    ensures { λ r. ⌜ Told (lentHall width height (now (hall .entry))) (barsAt capacity (now (columns .entry)) node carrier) start goal h (now (layers .entry)) (now (layers .exit)) (now (stretch .entry)) (now (stretch .exit)) r ⌝ }
+    ensures { λ r. ⌜ Told (hallOf width height (now (hall .entry))) (barsAt capacity (now (columns .entry)) node carrier) start goal h (now (layers .entry)) (now (layers .exit)) (now (stretch .entry)) (now (stretch .exit)) r ⌝ }
 {
-    let sought = layers::seek_route(
-        hall,
-        width,
-        height,
+    let grid = Grid { width, height };
+    let trip = Trip {
         start,
         goal,
-        h,
-        columns,
+        horizon: h,
+    };
+    let bar = Bar::Free;
+    let bound = Bound {
         capacity,
         node,
         carrier,
-        Bar::Free,
-        layers,
-    );
+        bar,
+    };
+    let sought = layers::seek_route(hall, grid, trip, columns, bound, layers);
     match sought {
         Sought::Nothing => NO_ROUTE,
         Sought::Cost(cost) => {
-            writer::write_route(
-                hall,
-                width,
-                height,
-                start,
-                goal,
-                h,
-                columns,
-                capacity,
-                node,
-                carrier,
-                Bar::Free,
-                layers,
-                stretch,
-            );
+            writer::write_route(layers, grid, trip, stretch);
             cost
         }
     }
@@ -180,7 +166,7 @@ pub extern "C" fn adfulmise_best_route(
     layers: &mut [u8],
     stretch: &mut [u8],
 ) -> usize
-    ensures { λ r. ⌜ Answered (RightArguments (now (hall .entry)) width height start goal h (now (columns .entry)) capacity node (now (layers .entry)) (now (stretch .entry))) (lentHall width height (now (hall .entry))) (barsAt capacity (now (columns .entry)) node carrier) start goal h (now (layers .entry)) (now (layers .exit)) (now (stretch .entry)) (now (stretch .exit)) r ⌝ }
+    ensures { λ r. ⌜ Answered (RightArguments (now (hall .entry)) width height start goal h (now (columns .entry)) capacity node (now (layers .entry)) (now (stretch .entry))) (hallOf width height (now (hall .entry))) (barsAt capacity (now (columns .entry)) node carrier) start goal h (now (layers .entry)) (now (layers .exit)) (now (stretch .entry)) (now (stretch .exit)) r ⌝ }
 {
     if !right_arguments(
         hall,

@@ -87,12 +87,12 @@ module _ (job : Job) (i : ℕ) (bars : List Bar) where
   finds-right : (o : Option (List ℕ)) → Finds (job .goalOf i) (Allowed job i bars) o → RightRoute job i bars o
   unfolding Finds RightRoute
   finds-right none f = f
-  finds-right (some r) f = record { allowed = f .inside; least = f .least; first = f .first }
+  finds-right (some r) f = record { allowed = f .inside; least = f .least; fewest = f .fewest; first = f .first }
 
   right-finds : (o : Option (List ℕ)) → RightRoute job i bars o → Finds (job .goalOf i) (Allowed job i bars) o
   unfolding Finds RightRoute
   right-finds none f = f
-  right-finds (some r) f = record { inside = f .allowed; least = f .least; first = f .first }
+  right-finds (some r) f = record { inside = f .allowed; least = f .least; fewest = f .fewest; first = f .first }
 
   -- rule 2 of the search tree
   pub best-is-right : RightRoute job i bars (bestRoute job i bars)

@@ -1,8 +1,8 @@
 -- The best way over any places to stand and any turns, by induction on the steps left.
 -- Assumes nothing.
 use Prim.Native.Nat.{ℕ, zero, suc, _+_, _≤_, _<_}
-use mathlib.Core.Path.{_≡_, refl, ap, subst}
-use mathlib.Core.Logic.{inl}
+use mathlib.Core.Path.{_≡_, refl, sym, ap, subst}
+use mathlib.Core.Logic.{inl, inr}
 use mathlib.Core.Bool.{Bool, true, false, _&&_}
 use mathlib.Core.List.{List, [], _∷_, map, List·Memᴰ, Memᴰ·cast}
 use mathlib.Core.Option.{Option, none, some}
@@ -14,7 +14,7 @@ use Rattle.lists.proofs.Orders.{Rising}
 use Rattle.lists.proofs.Tests.{and-both, both-and, eq-test}
 use Rattle.routes.specs.Route.{cellOf}
 use Rattle.routes.specs.Best.{NotAfter, bestOf, inFront, bestWay}
-use Rattle.routes.proofs.Finding.{Finds, Among, front-finds, bestOf-finds}
+use Rattle.routes.proofs.Finding.{Finds, Among, Front, finds-same, front-finds, bestOf-finds}
 use Rattle.routes.proofs.Order.{not-after-itself}
 
 -- where a carrier may stand at a step, where it may turn from there, and its goal
@@ -93,33 +93,41 @@ module _ (stand : ℕ → ℕ → Bool) (turn : ℕ → ℕ → List ℕ) (goal 
   unfolding Way
   run-last t v h e = record { long = refl; begins = refl; way = (h, e) }
 
-  run-rest : (n t v : ℕ) (s : List ℕ) → Runs (suc n) t v s → (r : List ℕ) × (s ≡ v ∷ r) × (T (stand t v) × Among (Runs n (suc t)) (turn t v) r)
-  unfolding Way Among
+  -- the ways that go on from v by some turn
+  abbrev Onward : ℕ → ℕ → ℕ → List ℕ → Type 0
+  Onward n t v s = Among (λ w. Front v (Runs n (suc t) w)) (turn t v) s
+
+  run-rest : (n t v : ℕ) (s : List ℕ) → Runs (suc n) t v s → T (stand t v) × Onward n t v s
+  unfolding Way Among Front
   run-rest n t v [] f = absurd (omega arith)
   run-rest n t v (x ∷ []) f = absurd (omega arith)
   run-rest n t v (x ∷ w ∷ r) f =
       let e : x ≡ v = f .begins in
       let long : length (w ∷ r) ≡ suc n = omega arith in (
-        w ∷ r,
-        ap {B = List ℕ} (λ z. z ∷ w ∷ r) e,
+        subst (λ z. T (stand t z)) e (f .way .0),
         (
-          subst (λ z. T (stand t z)) e (f .way .0),
-          (w, subst (λ z. List·Memᴰ w (turn t z)) e (f .way .1), record { long = long; begins = refl; way = f .way .2 }),
+          w,
+          subst (λ z. List·Memᴰ w (turn t z)) e (f .way .1),
+          (w ∷ r, ap {B = List ℕ} (λ z. z ∷ w ∷ r) e, record { long = long; begins = refl; way = f .way .2 }),
         ),
       )
 
-  run-front : (n t v : ℕ) (r : List ℕ) → T (stand t v) × Among (Runs n (suc t)) (turn t v) r → Runs (suc n) t v (v ∷ r)
-  unfolding Way Among
-  run-front n t v [] f = let g = f .1 .2 in absurd (omega arith)
-  run-front n t v (x ∷ r) f =
-      let g = f .1 .2 in
-      record { long = ap suc (g .long); begins = refl; way = (f .0, Memᴰ·cast (g .begins) (f .1 .1), g .way) }
+  run-front : (n t v : ℕ) (s : List ℕ) → T (stand t v) → Onward n t v s → Runs (suc n) t v s
+  unfolding Way Among Front
+  run-front n t v s h (w, m, (r, e, g)) = subst (Runs (suc n) t v) (sym e) (fronted n t v w r h m g)
+    where
+      fronted : (n t v w : ℕ) (r : List ℕ) → T (stand t v) → List·Memᴰ w (turn t v) → Runs n (suc t) w r → Runs (suc n) t v (v ∷ r)
+      fronted n t v w [] h m g = absurd (omega (arith, g .long))
+      fronted n t v w (x ∷ r) h m g = record { long = ap suc (g .long); begins = refl; way = (h, Memᴰ·cast (g .begins) m, g .way) }
 
-  runs-before : (n t w x : ℕ) (r s : List ℕ) → w < x → Runs n t w r → Runs n t x s → NotAfter r s
-  unfolding NotAfter
-  runs-before n t w x [] s h f g = tt
-  runs-before n t w x (a ∷ r) [] h f g = absurd (omega (arith, g .long))
-  runs-before n t w x (a ∷ r) (b ∷ s) h f g = inl (omega (arith, f .begins, g .begins))
+  runs-before : (n t v w x : ℕ) (r s : List ℕ) → w < x → Front v (Runs n t w) r → Front v (Runs n t x) s → NotAfter r s
+  unfolding NotAfter Front
+  runs-before n t v w x r s h (p, e, f) (q, k, g) = rw (e, k) (inr (refl, before p q (f .long) (g .long) (f .begins) (g .begins)))
+    where
+      before : (p q : List ℕ) → length p ≡ suc n → length q ≡ suc n → cellOf p 0 ≡ w → cellOf q 0 ≡ x → NotAfter p q
+      before [] q l k a b = tt
+      before (a ∷ p) [] l k c d = absurd (omega arith)
+      before (a ∷ p) (b ∷ q) l k c d = inl (omega arith)
 
   last-right : (t v : ℕ) (b : Bool) → (T b → T (stand t v) × (v ≡ goal)) → (T (stand t v) × (v ≡ goal) → T b) → Right 0 t v (elim b [ true ↦ some (v ∷ []) | false ↦ none ])
   unfolding Right Finds
@@ -127,21 +135,18 @@ module _ (stand : ℕ → ℕ → Bool) (turn : ℕ → ℕ → List ℕ) (goal 
       record {
         inside = run-last t v (test tt .0) (test tt .1);
         least = λ s f. rw (last-run t v s f .0) (omega arith);
-        first = λ s f k. rw (last-run t v s f .0) (not-after-itself (v ∷ []));
+        fewest = λ s f k. rw (last-run t v s f .0) (omega arith);
+        first = λ s f k j. rw (last-run t v s f .0) (not-after-itself (v ∷ []));
       }
   last-right t v false test fact = λ s f. fact (last-run t v s f .1, last-run t v s f .2)
 
-  front-right : (n t v : ℕ) (b : Bool) (o : Option (List ℕ)) → (T b → T (stand t v)) → (T (stand t v) → T b) → Finds goal (Among (Runs n (suc t)) (turn t v)) o → Right (suc n) t v (elim b [ true ↦ inFront v o | false ↦ none ])
+  front-right : (n t v : ℕ) (b : Bool) (o : Option (List ℕ)) → (T b → T (stand t v)) → (T (stand t v) → T b) → Finds goal (Onward n t v) o → Right (suc n) t v (elim b [ true ↦ o | false ↦ none ])
   unfolding Right Finds
-  front-right n t v true o test fact f =
-      front-finds goal (Among (Runs n (suc t)) (turn t v)) (Runs (suc n) t v) v
-      (λ r a. run-front n t v r (test tt, a))
-      (λ s g. let (r, e, a) = run-rest n t v s g in (r, e, a .1))
-      o f
-  front-right n t v false o test fact f = λ s g. fact (run-rest n t v s g .2 .0)
+  front-right n t v true o test fact f = finds-same goal (Onward n t v) (Runs (suc n) t v) (λ s a. run-front n t v s (test tt) a) (λ s g. run-rest n t v s g .1) o f
+  front-right n t v false o test fact f = λ s g. fact (run-rest n t v s g .0)
 
-  -- by induction on the steps left: the suffixes from each cell that may follow are right, the best of them is the best
-  -- suffix, and v in front of it the best way
+  -- by induction on the steps left: the suffixes from each cell that may follow are right, v in front of each is the best way by that
+  -- cell, and the best of them the best way
   pub bestWay-right : ((t v : ℕ) → Rising (turn t v)) → (n t v : ℕ) → Right n t v (bestWay stand turn goal n t v)
   unfolding Right bestWay
   bestWay-right rises zero t v =
@@ -149,5 +154,7 @@ module _ (stand : ℕ → ℕ → Bool) (turn : ℕ → ℕ → List ℕ) (goal 
       (λ h. let b = and-both (stand t v) (eqb v goal) h in (b .0, eqb→eq v goal (b .1)))
       (λ f. both-and (stand t v) (eqb v goal) (f .0) (eq-test v goal (f .1)))
   bestWay-right rises (suc n) t v =
-      front-right n t v (stand t v) (bestOf goal (map (bestWay stand turn goal n (suc t)) (turn t v))) (λ h. h) (λ h. h)
-      (bestOf-finds goal (Runs n (suc t)) (bestWay stand turn goal n (suc t)) (bestWay-right rises n (suc t)) (runs-before n (suc t)) (turn t v) (rises t v))
+      front-right n t v (stand t v) (bestOf goal (map (λ w. inFront v (bestWay stand turn goal n (suc t) w)) (turn t v))) (λ h. h) (λ h. h)
+      (bestOf-finds goal (λ w. Front v (Runs n (suc t) w)) (λ w. inFront v (bestWay stand turn goal n (suc t) w))
+      (λ w. front-finds goal (Runs n (suc t) w) v w (λ r g. (omega (arith, g .long), g .begins)) (bestWay stand turn goal n (suc t) w) (bestWay-right rises n (suc t) w))
+      (runs-before n (suc t) v) (turn t v) (rises t v))

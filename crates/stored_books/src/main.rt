@@ -67,7 +67,7 @@ fn part(bytes: &[u8], at: usize, size: usize) -> &[u8] {
 fn compare(book: &[u8], expected: &[u8]) -> usize {
     let mut columns = [0u16; 1024];
     let mut plans = [0u8; 65536];
-    let mut layers = [0u8; 16384];
+    let mut layers = [0u8; 32768];
     let mut output = [0u8; 512];
     let mut out = [0u8; 4096];
     let end = lines::book_lines(

@@ -1,5 +1,6 @@
 -- Document 01, 'Lent tables, for m carriers: record columns, 16-bit, at least 8 × N; plans, bytes, at least
--- N × m × (H + 1); layers, bytes, at least (H + 1) × width × height; output, at least m × (H + 1) bytes.'
+-- N × m × (H + 1); layers, bytes, at least (H + 1) × width × height; output, at least m × (H + 1) bytes.' Document 02, P2: 'The layers
+-- table needs twice its length.'
 use Prim.Native.Nat.{ℕ, _+_, _*_, _≤_, _<_}
 use mathlib.Core.List.{List, [], _∷_, _++_}
 use mathlib.Core.Option.{Option}
@@ -24,7 +25,7 @@ abbrev pub plansLength : Job → ℕ → ℕ
 plansLength job capacity = capacity * planLength job
 
 abbrev pub layersLength : Job → ℕ
-layersLength job = (job .horizon + 1) * size (job .hall)
+layersLength job = 2 * ((job .horizon + 1) * size (job .hall))
 
 -- the lent tables by number, in that order from 0: how long each is and how long it must be, in its own entries
 abbrev pub lentLength : Tables → ℕ → ℕ

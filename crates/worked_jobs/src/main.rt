@@ -1,12 +1,12 @@
-// Document 01, 'Jobs worked by hand': all of them, also the one without a star, each as a book with its N; and document 02, P1, two
-// jobs with shared ends. The lines of each are followed by an empty line.
+// Document 01, 'Jobs worked by hand': all of them, also the one without a star, each as a book with its N; and of document 02 for P1 two
+// jobs with shared ends, for P2 two in which a carrier stands rather than wanders. The lines of each are followed by an empty line.
 use libc::STDOUT_FILENO;
 
 // Tables of the greatest lengths for N = 128.
 fn show(book: &[u8], capacity: usize) {
     let mut columns = [0u16; 1024];
     let mut plans = [0u8; 65536];
-    let mut layers = [0u8; 16384];
+    let mut layers = [0u8; 32768];
     let mut output = [0u8; 512];
     let mut out = [0u8; 4096];
     let end = lines::book_lines(
@@ -529,6 +529,97 @@ fn main() {
             6,
             0,
             3,
+        ],
+        128,
+    );
+    // Document 02, P2: 4 by 4, 4→7 and 1→13, k 2, H 10.
+    show(
+        &[
+            3,
+            1,
+            16,
+            0,
+            18,
+            0,
+            2,
+            34,
+            0,
+            4,
+            0,
+            3,
+            38,
+            0,
+            2,
+            0,
+            4,
+            4,
+            46,
+            46,
+            46,
+            46,
+            46,
+            46,
+            46,
+            46,
+            46,
+            46,
+            46,
+            46,
+            46,
+            46,
+            46,
+            46,
+            4,
+            7,
+            1,
+            13,
+            2,
+            10,
+        ],
+        128,
+    );
+    // 5 by 3, 5→9 and 2→12, k 2, H 10.
+    show(
+        &[
+            3,
+            1,
+            16,
+            0,
+            17,
+            0,
+            2,
+            33,
+            0,
+            4,
+            0,
+            3,
+            37,
+            0,
+            2,
+            0,
+            5,
+            3,
+            46,
+            46,
+            46,
+            46,
+            46,
+            46,
+            46,
+            46,
+            46,
+            46,
+            46,
+            46,
+            46,
+            46,
+            46,
+            5,
+            9,
+            2,
+            12,
+            2,
+            10,
         ],
         128,
     );

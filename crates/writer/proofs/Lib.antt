@@ -1,8 +1,6 @@
-pub mod CellPlaces
-pub mod OnwardLaws
-pub mod RouteLaws
+pub mod ReadLaws
 pub mod StayLaws
 pub mod StepLaws
-pub mod WayLaws
+pub mod TurnLaws
 pub mod WriteLaws
 pub mod Wrong

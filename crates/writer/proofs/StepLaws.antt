@@ -1,89 +1,136 @@
 -- One step of the route, as the code takes it: the five moves are tried in order, and what is left of them has the same first cell.
 -- Assumes nothing.
-use Prim.Native.Nat.{ℕ, _+_, _-_, _/_, _%_, _≤_, _<_}
+use Prim.Native.Nat.{ℕ, _+_, _-_, _*_, _/_, _%_, _≤_, _<_}
+use native.Mathlib.Nat.{mul-comm, mul-le-mul, div-lt-iff-lt-mul, mod-lt}
 use native.Mathlib.Omega.{arith}
-use native.Mathlib.Numerals.{add-one}
-use mathlib.Core.Path.{_≡_, refl, sym, ap, _∙_}
-use mathlib.Core.Bool.{Bool, true, false}
-use mathlib.Core.List.{List, [], _++_}
-use lib.ListN.{getD}
-use borrow.Author.Tests.{eq-eqb, ne-eqb}
+use mathlib.Core.Path.{_≡_, refl, sym, ap, subst, _∙_}
+use mathlib.Core.Bool.{Bool, true, false, not, _&&_}
+use mathlib.Core.List.{List, [], _++_, List·Memᴰ, List·Memᴰ·head}
+use lib.Arith.{digits-lt}
+use lib.Dec.{eqb, ltb}
+use lib.ListN.{length, getD}
+use borrow.Author.Tests.{lt-ltb, le-ltb, eq-eqb, ne-eqb}
 use Rattle.lists.specs.Lists.{range, only, keep, each}
-use Rattle.lists.proofs.Ranges.{range-next, range-done, keep-append}
-use Rattle.hall.specs.Moves.{landing, moveCount}
+use Rattle.lists.proofs.Ranges.{range-next, range-done}
+use Rattle.lists.proofs.Members.{only-member}
+use Rattle.lists.proofs.Tests.{is-true}
+use Rattle.hall.specs.Moves.{rowAfter, colAfter, onGrid, cellAt, landing, moveCount}
 use Rattle.hall.specs.Landing.{landed}
 use Rattle.hall.specs.declared.Landing.{Landing}
 use Rattle.hall.specs.declared.Landing.the-variants.{Off, Cell}
-use Rattle.layers.specs.Fill.{levelIn, halves, odd, unless, turnsBy}
-use Rattle.writer.specs.Write.{hasLevel, goneTo}
+use Rattle.hall.proofs.HallCode.{grid-bounds}
+use Rattle.shuts.specs.Shuts.{hasDigit, unless}
+use Rattle.marks.specs.Post.{Layered}
+use Rattle.layers.specs.Fill.{oneMore}
+use Rattle.layers.proofs.PassLaws.{next-layer}
+use Rattle.writer.specs.Write.{movesBy, wantedBy, steppedTo}
 
 -- ---- one move
 
-module _ (layers : List ℕ) (next target rest : ℕ) where
-  -- what the move leaves of the cells it leads to
-  abbrev left : List ℕ → List ℕ
-  left ws = keep (hasLevel layers next target) (unless (odd rest) ws)
+pub stay-free : (m left : ℕ) → m ≡ 2 → left ≡ movesBy m left
+unfolding movesBy
+stay-free m left e = rw (eq-eqb m 2 e, movesBy)
 
-  pub goes-barred : (ws : List ℕ) → rest % 2 ≡ 1 → landed Off ≡ left ws
-  unfolding landed odd unless keep
-  goes-barred ws e = rw e
+pub move-paid : (m left more : ℕ) → (m ≡ 2 → ⊥) → more ≡ oneMore left → more ≡ movesBy m left
+unfolding movesBy
+move-paid m left more n e = rw (ne-eqb m 2 n, movesBy) e
 
-  unbarred : (ws : List ℕ) → (rest % 2 ≡ 1 → ⊥) → unless (odd rest) ws ≡ ws
-  unfolding odd unless
-  unbarred ws n = rw (ne-eqb (rest % 2) 1 n)
+-- a cell stands in a row and a column of the grid
+pub place-inside : (width height v : ℕ) → 1 ≤ width → v < width * height → (v / width < height) × (v % width < width)
+place-inside width height v w h = (div-lt-iff-lt-mul {k = width} {x = v} {y = height} w .1 (rw (mul-comm width height) at h), mod-lt v w)
 
-  pub goes-off : (l : Landing) (ws : List ℕ) → (rest % 2 ≡ 1 → ⊥) → l ≡ Off → landed l ≡ ws → landed Off ≡ left ws
-  unfolding landed keep
-  goes-off l ws n e q = ap (keep (hasLevel layers next target)) (ap landed (sym e) ∙ q ∙ sym (unbarred ws n))
+-- and so does the cell that a move leads to
+pub landed-inside : (width height row col m w : ℕ) (l : Landing) → l ≡ Cell w → landed l ≡ landing width height row col m → w < width * height
+unfolding landed landing cellAt
+landed-inside width height row col m w l e q =
+    let (on, there) = only-member {x = w} (onGrid width height (rowAfter row m) (colAfter col m)) (subst (λ ws. List·Memᴰ w ws) (ap landed (sym e) ∙ q) (List·Memᴰ·head refl)) in
+    let at = grid-bounds width height (rowAfter row m) (colAfter col m) (is-true on) in
+    rw (there, mul-comm width height) (digits-lt {q = rowAfter row m - 1} {m = height} {r = colAfter col m - 1} {c = width} (omega (arith, at .0 .0, at .0 .1)) (omega (arith, at .1 .0, at .1 .1)))
 
-  goes : (b : Bool) (w : ℕ) (l : Landing) (ws : List ℕ) → (rest % 2 ≡ 1 → ⊥) → l ≡ Cell w → landed l ≡ ws → hasLevel layers next target w ≡ b → only b w ++ [] ≡ left ws
-  unfolding landed keep
-  goes b w l ws n e q k = ap (λ x. only x w ++ []) (sym k) ∙ ap (keep (hasLevel layers next target)) (ap landed (sym e) ∙ q ∙ sym (unbarred ws n))
+module _ (width height : ℕ) (layers : List ℕ) (next v digits target m : ℕ) where
+  -- the cells that the move leads to, and those that are wanted
+  abbrev cells : List ℕ
+  cells = landing width height (v / width) (v % width) m
 
-  pub goes-there : (r w : ℕ) (l : Landing) (ws : List ℕ) → (rest % 2 ≡ 1 → ⊥) → l ≡ Cell w → landed l ≡ ws → r ≡ getD layers (next + w) 0 % 128 → r ≡ target → landed (Cell w) ≡ left ws
-  unfolding landed only hasLevel levelIn
-  goes-there r w l ws n e q k y = goes true w l ws n e q (eq-eqb (getD layers (next + w) 0 % 128) target (sym k ∙ y))
+  abbrev wanted : List ℕ
+  wanted = wantedBy width height layers next v digits target m
 
-  pub goes-elsewhere : (r w : ℕ) (l : Landing) (ws : List ℕ) → (rest % 2 ≡ 1 → ⊥) → l ≡ Cell w → landed l ≡ ws → r ≡ getD layers (next + w) 0 % 128 → (r ≡ target → ⊥) → landed Off ≡ left ws
-  unfolding landed only hasLevel levelIn
-  goes-elsewhere r w l ws n e q k y = goes false w l ws n e q (ne-eqb (getD layers (next + w) 0 % 128) target (λ z. y (k ∙ z)))
+  pub goes-barred : (b : Bool) → b ≡ hasDigit digits m → b ≡ true → landed Off ≡ wanted
+  unfolding landed wantedBy unless keep
+  goes-barred b d e = rw (sym d ∙ e)
+
+  unbarred : (b : Bool) → b ≡ hasDigit digits m → b ≡ false → (ws : List ℕ) → ws ≡ unless (hasDigit digits m) ws
+  unfolding unless
+  unbarred b d e ws = rw (sym d ∙ e)
+
+  pub goes-off : (b : Bool) (l : Landing) → b ≡ hasDigit digits m → b ≡ false → l ≡ Off → landed l ≡ cells → landed Off ≡ wanted
+  unfolding landed keep wantedBy
+  goes-off b l d n e q = ap (keep (λ w. eqb (movesBy m (getD layers (next + w) 0)) target)) (ap landed (sym e) ∙ q ∙ unbarred b d n cells)
+
+  goes : (a b : Bool) (w : ℕ) (l : Landing) → b ≡ hasDigit digits m → b ≡ false → l ≡ Cell w → landed l ≡ cells → eqb (movesBy m (getD layers (next + w) 0)) target ≡ a → only a w ++ [] ≡ wanted
+  unfolding landed keep wantedBy
+  goes a b w l d n e q k = ap (λ x. only x w ++ []) (sym k) ∙ ap (keep (λ w. eqb (movesBy m (getD layers (next + w) 0)) target)) (ap landed (sym e) ∙ q ∙ unbarred b d n cells)
+
+  pub goes-there : (b : Bool) (r w : ℕ) (l : Landing) → b ≡ hasDigit digits m → b ≡ false → l ≡ Cell w → landed l ≡ cells → r ≡ movesBy m (getD layers (next + w) 0) → r ≡ target → landed (Cell w) ≡ wanted
+  unfolding landed only
+  goes-there b r w l d n e q k y = goes true b w l d n e q (eq-eqb (movesBy m (getD layers (next + w) 0)) target (sym k ∙ y))
+
+  pub goes-elsewhere : (b : Bool) (r w : ℕ) (l : Landing) → b ≡ hasDigit digits m → b ≡ false → l ≡ Cell w → landed l ≡ cells → r ≡ movesBy m (getD layers (next + w) 0) → (r ≡ target → ⊥) → landed Off ≡ wanted
+  unfolding landed only
+  goes-elsewhere b r w l d n e q k y = goes false b w l d n e q (ne-eqb (movesBy m (getD layers (next + w) 0)) target (λ z. y (k ∙ z)))
 
 -- ---- all moves, in order
 
--- what the moves from m on lead to, where their digits are not set
-abbrev pub later : ℕ → ℕ → ℕ → ℕ → ℕ → ℕ → List ℕ
-later width height row col mark m = each (λ k. unless (odd (halves k mark)) (landing width height row col k)) (range m (moveCount - m))
+module _ (width height : ℕ) (layers : List ℕ) (next v digits target : ℕ) where
+  abbrev wants : ℕ → List ℕ
+  wants = wantedBy width height layers next v digits target
 
--- none of the first m moves was taken, and their digits are passed
-pub record Passed (layers : List ℕ) (next target v width height row col mark : ℕ) (rest m : ℕ) : Type 0 where
-  pub within : m ≤ moveCount
-  pub digits : rest ≡ halves m mark
-  pub same : goneTo layers next target v (turnsBy width height row col mark) ≡ goneTo layers next target v (later width height row col mark m)
+  -- the first cell by the moves from m on
+  abbrev firstFrom : ℕ → ℕ
+  firstFrom m = getD (each wants (range m (moveCount - m))) 0 v
 
-module _ (layers : List ℕ) (next target v width height row col mark : ℕ) where
-  pub moves-begin : Passed layers next target v width height row col mark mark 0
-  unfolding halves turnsBy
-  moves-begin = record { within = omega arith; digits = refl; same = refl }
+  -- none of the first m moves was taken
+  pub record Tried (m : ℕ) : Type 0 where
+    pub within : m ≤ moveCount
+    pub same : getD (each wants (range 0 moveCount)) 0 v ≡ firstFrom m
 
-  later-next : (rest m : ℕ) → m < moveCount → rest ≡ halves m mark → later width height row col mark m ≡ unless (odd rest) (landing width height row col m) ++ later width height row col mark (m + 1)
+  pub none-tried : Tried 0
+  none-tried = record { within = omega arith; same = refl }
+
+  later-next : (m : ℕ) → m < moveCount → each wants (range m (moveCount - m)) ≡ wants m ++ each wants (range (m + 1) (moveCount - (m + 1)))
   unfolding each
-  later-next rest m h d = rw (d, range-next m moveCount h)
+  later-next m h = rw (range-next m moveCount h)
 
-  module _ (rest m : ℕ) (p : Passed layers next target v width height row col mark rest m) where
-    pub move-found : (w : ℕ) (l : Landing) → m < moveCount → l ≡ Cell w → landed l ≡ keep (hasLevel layers next target) (unless (odd rest) (landing width height row col m)) → w ≡ goneTo layers next target v (turnsBy width height row col mark)
-    unfolding goneTo landed
-    move-found w l h e q =
-        rw (p .same, later-next rest m h (p .digits), keep-append (hasLevel layers next target) (unless (odd rest) (landing width height row col m)) (later width height row col mark (m + 1)), ← q, e)
+  module _ (m : ℕ) (p : Tried m) where
+    pub move-found : (w : ℕ) (l : Landing) → m < moveCount → l ≡ Cell w → landed l ≡ wants m → w ≡ getD (each wants (range 0 moveCount)) 0 v
+    unfolding landed
+    move-found w l h e q = rw (p .same, later-next m h, ← q, e)
 
-    pub move-passed : (l : Landing) → m < moveCount → l ≡ Off → landed l ≡ keep (hasLevel layers next target) (unless (odd rest) (landing width height row col m)) → Passed layers next target v width height row col mark (rest / 2) (m + 1)
-    unfolding goneTo landed halves
-    move-passed l h e q =
-        record {
-          within = omega arith;
-          digits = rw add-one (ap (λ x. x / 2) (p .digits));
-          same = rw (p .same, later-next rest m h (p .digits), keep-append (hasLevel layers next target) (unless (odd rest) (landing width height row col m)) (later width height row col mark (m + 1)), ← q, e);
-        }
+    pub move-passed : (l : Landing) → m < moveCount → l ≡ Off → landed l ≡ wants m → Tried (m + 1)
+    unfolding landed
+    move-passed l h e q = record { within = omega arith; same = rw (p .same, later-next m h, ← q, e) }
 
-    pub moves-end : moveCount ≤ m → v ≡ goneTo layers next target v (turnsBy width height row col mark)
-    unfolding goneTo each keep
+    pub moves-end : moveCount ≤ m → v ≡ getD (each wants (range 0 moveCount)) 0 v
+    unfolding each
     moves-end h = rw (p .same, range-done m moveCount h)
+
+-- ---- where the layers are read
+
+-- the layer of the next step lies inside
+pub layer-inside : (width height h t : ℕ) (layers : List ℕ) → Layered width height h layers → t < h → (t + 1) * (width * height) + width * height ≤ length layers
+layer-inside width height h t layers l k =
+    let next : (t + 1) * (width * height) + width * height ≡ (t + 1 + 1) * (width * height) = sym (next-layer (t + 1) (width * height)) in
+    let whole : (t + 1 + 1) * (width * height) ≤ (h + 1) * (width * height) = mul-le-mul {n₁ = t + 1 + 1} {m₁ = width * height} {n₂ = h + 1} {m₂ = width * height} (omega arith) (omega arith) in
+    omega (arith, l .room)
+
+pub step-read : (width height h : ℕ) (layers : List ℕ) (t v w : ℕ) → w ≡ getD (each (wantedBy width height layers ((t + 1) * (width * height)) v (getD layers ((h + 1) * (width * height) + t * (width * height) + v) 0) (getD layers (t * (width * height) + v) 0)) (range 0 moveCount)) 0 v → w ≡ steppedTo width height h layers t v
+unfolding steppedTo
+step-read width height h layers t v w e = e
+
+-- ---- is a move left?
+
+pub goes-left : (t h byte : ℕ) → t < h → not (eqb byte 0) ≡ (ltb t h && not (eqb byte 0))
+goes-left t h byte l = rw (lt-ltb t h l)
+
+pub goes-late : (t h byte : ℕ) → h ≤ t → ltb t h ≡ (ltb t h && not (eqb byte 0))
+goes-late t h byte l = rw (le-ltb t h l)

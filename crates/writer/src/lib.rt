@@ -1,49 +1,53 @@
-// The best route of a carrier, read off the levels in the lent layers (crate layers) and written into a node's own stretch.
-// Rule 2 of document 01: the route is 'one of least cost; among these, the one whose list of cells from 0 to H comes first in dictionary
-// order of cell numbers'. So from step 0 on it goes each time to the lowest cell whose level is the cost that is left.
+// The best route of a carrier, read off the lent layers (crate layers) and written into a node's own stretch.
+// Document 02, P2: 'take those with the fewest moves, and among these the first in dictionary order'. So from step 0 on it goes each time to
+// the lowest cell by which as few moves are left as there may be, and stays where none is left.
+use hall::Grid;
 use hall::Landing;
-use routes::Bar;
+use layers::Trip;
 ghost use Prim.Native.Nat.{_+_, _-_, _*_, _/_, _%_, _≤_, _<_};
+ghost use mathlib.Core.Bool.{not, _&&_};
 ghost use mathlib.Core.Path.{_≡_};
 ghost use mathlib.Core.List.{_++_};
+ghost use lib.Dec.{eqb, ltb};
 ghost use lib.ListN.{length, getD, take, replicate};
-ghost use Rattle.lists.specs.Lists.{keep};
-ghost use Rattle.hall.specs.Moves.{landing};
 ghost use Rattle.hall.specs.Landing.{landed};
-ghost use Rattle.records.specs.Columns.{Falls};
-ghost use Rattle.marks.specs.Marks.{boundBy};
 ghost use Rattle.marks.specs.Post.{Layered};
-ghost use Rattle.layers.specs.Layers.{wayFrom, routeFrom, Filled};
-ghost use Rattle.layers.specs.Fill.{lentHall, odd, unless, turnsBy};
-ghost use Rattle.writer.specs.Post.{writtenRoute};
-ghost use Rattle.writer.specs.Write.{hasLevel, goneTo, writtenFrom};
+ghost use Rattle.writer.specs.Write.{movesBy, wantedBy, steppedTo, readRoute};
 
 // ---- one step
 
-// The cell that move m leads to, if it has the level wanted in the layer that starts at `next`, and the digit of the move, the last of
-// `rest`, is not set: no bar forbids it.
+// The moves of a way by move m, of those that are left where it leads: a stay is no move.
+fn moves_by(left: u8, m: usize) -> u8
+    ensures { λ r. ⌜ r ≡ movesBy m left ⌝ }
+{
+    if m == shuts::STAY {
+        return left;
+    }
+    layers::one_more(left)
+}
+
+// The cell that move m leads to, if no bar forbids it and as many moves are left by it as are wanted; `next` is where the layer of the
+// next step begins.
 fn goes_by(
     layers: &[u8],
-    width: usize,
-    height: usize,
+    grid: Grid,
     next: usize,
+    v: usize,
+    digits: u8,
     target: u8,
-    row: usize,
-    col: usize,
     m: usize,
-    rest: u8,
 ) -> Landing
-    requires { ⌜ (width ≤ 16) × (height ≤ 16) × (row < height) × (col < width) × (m < 5) × (next + width * height ≤ length (now layers)) ⌝ }
-    ensures { λ r. ⌜ landed r ≡ keep (hasLevel (now (layers .entry)) next target) (unless (odd rest) (landing width height row col m)) ⌝ }
+    requires { ⌜ (1 ≤ grid .width) × (grid .width ≤ 16) × (grid .height ≤ 16) × (v < grid .width * grid .height) × (m < 5) × (next + grid .width * grid .height ≤ length (now layers)) ⌝ }
+    ensures { λ r. ⌜ landed r ≡ wantedBy (grid .width) (grid .height) (now (layers .entry)) next v digits target m ⌝ }
 {
-    if rest % 2 == 1 {
+    if shuts::has_digit(digits, m) {
         return Landing::Off;
     }
-    let l = hall::landing_at(width, height, row, col, m);
+    let l = hall::landing_at(grid.width, grid.height, v / grid.width, v % grid.width, m);
     match l {
         Landing::Off => Landing::Off,
         Landing::Cell(w) => {
-            if layers::level_at(layers, next + w) == target {
+            if moves_by(layers[next + w], m) == target {
                 return Landing::Cell(w);
             }
             Landing::Off
@@ -51,29 +55,25 @@ fn goes_by(
     }
 }
 
-// The cell at t + 1 of the best way on from v at t, where this is the mark: the first of the level wanted, in the order of moves, which
-// is that of cells; the cell itself where there is none.
-fn step_on(layers: &[u8], width: usize, height: usize, t: usize, v: usize, mark: u8) -> usize
-    requires { ⌜ (1 ≤ width) × (width ≤ 16) × (height ≤ 16) × (v < width * height) × (t < 63) × ((t + 1) * (width * height) + width * height ≤ length (now layers)) ⌝ }
-    requires { ⌜ 1 ≤ getD (now layers) (t * (width * height) + v) 0 % 128 ⌝ }
-    ensures { λ r. ⌜ r ≡ goneTo (now (layers .entry)) ((t + 1) * (width * height)) (getD (now (layers .entry)) (t * (width * height) + v) 0 % 128 - 1) v (turnsBy width height (v / width) (v % width) mark) ⌝ }
+// The cell at t + 1 of the way from v at t: the first wanted in the order of moves, which is that of cells; the cell itself where there is
+// none.
+fn step_on(layers: &[u8], grid: Grid, h: usize, t: usize, v: usize) -> usize
+    requires { ⌜ Layered (grid .width) (grid .height) h (now layers) × (v < grid .width * grid .height) × (t < h) ⌝ }
+    ensures { λ r. ⌜ r ≡ steppedTo (grid .width) (grid .height) h (now (layers .entry)) t v ⌝ }
 {
-    let size = width * height;
+    let size = grid.width * grid.height;
+    let digits = layers[(h + 1) * size + t * size + v];
+    let target = layers[t * size + v];
     let next = (t + 1) * size;
-    let target = layers::level_at(layers, t * size + v) - 1;
-    let row = v / width;
-    let col = v % width;
-    let mut rest = mark;
     let mut m = 0;
     while m < hall::MOVE_COUNT {
-        let l = goes_by(layers, width, height, next, target, row, col, m, rest);
+        let l = goes_by(layers, grid, next, v, digits, target, m);
         match l {
             Landing::Cell(w) => {
                 return w;
             }
             Landing::Off => {}
         }
-        rest = rest / 2;
         m += 1;
     }
     v
@@ -93,106 +93,27 @@ fn stay_on(t: usize, v: usize, stretch: &mut [u8])
     }
 }
 
-// A byte for each of 64 steps and 256 cells.
-const MOST_BYTES: usize = 16384;
-
-// The best way on from `cell` at `step`, where barred crossings start on the way. The bars are marked once more, since the levels were
-// filled over their marks.
-fn write_barred(
-    hall: &[u8],
-    width: usize,
-    height: usize,
-    goal: usize,
-    h: usize,
-    columns: &[u16],
-    capacity: usize,
-    node: usize,
-    carrier: usize,
-    bar: Bar,
-    layers: &[u8],
-    step: usize,
-    cell: usize,
-    stretch: &mut [u8],
-)
-    requires { ⌜ Layered width height h (now layers) × (cell < width * height) × (step ≤ h) × (length (now stretch) ≡ h + 1) ⌝ }
-    requires { ⌜ Falls capacity (now columns) node ⌝ }
-    requires { ⌜ Filled (lentHall width height (now hall)) (boundBy capacity (now columns) node carrier bar) goal h (now layers) ⌝ }
-    requires { ⌜ getD (now layers) (step * (width * height) + cell) 0 % 128 < 127 ⌝ }
-    ensures { λ _. ⌜ now (stretch .exit) ≡ writtenFrom step (wayFrom (lentHall width height (now (hall .entry))) (boundBy capacity (now (columns .entry)) node carrier bar) goal h step cell) (now (stretch .entry)) ⌝ }
+// Is a step still to come, and a move left?
+fn goes_on(layers: &[u8], h: usize, t: usize, at: usize) -> bool
+    requires { ⌜ at < length (now layers) ⌝ }
+    ensures { λ r. ⌜ r ≡ (ltb t h && not (eqb (getD (now (layers .entry)) at 0) 0)) ⌝ }
 {
-    let mut ways = [0u8; MOST_BYTES];
-    marks::mark_all(
-        &mut ways,
-        width,
-        height,
-        h,
-        columns,
-        capacity,
-        node,
-        carrier,
-        bar,
-    );
-    let size = width * height;
-    let mut v = cell;
-    let mut t = step;
-    while layers::level_at(layers, t * size + v) != 0 {
-        stretch[t] = v as u8;
-        v = step_on(layers, width, height, t, v, ways[t * size + v]);
-        t += 1;
-    }
-    stay_on(t, v, stretch);
+    t < h && layers[at] != 0
 }
 
-// Document 01, rule 2: the best route of a carrier under its bars, from layers that hold its levels, into a stretch of h + 1 bytes. Where
-// there is none the stretch is left as it was.
-pub fn write_route(
-    hall: &[u8],
-    width: usize,
-    height: usize,
-    start: usize,
-    goal: usize,
-    h: usize,
-    columns: &[u16],
-    capacity: usize,
-    node: usize,
-    carrier: usize,
-    bar: Bar,
-    layers: &[u8],
-    stretch: &mut [u8],
-)
-    requires { ⌜ Layered width height h (now layers) × (start < width * height) × (length (now stretch) ≡ h + 1) ⌝ }
-    requires { ⌜ Falls capacity (now columns) node ⌝ }
-    requires { ⌜ Filled (lentHall width height (now hall)) (boundBy capacity (now columns) node carrier bar) goal h (now layers) ⌝ }
-    ensures { λ _. ⌜ now (stretch .exit) ≡ writtenRoute (routeFrom (lentHall width height (now (hall .entry))) (boundBy capacity (now (columns .entry)) node carrier bar) start goal h) (now (stretch .entry)) ⌝ }
+// The route that the layers hold, into a stretch of h + 1 bytes: the best one, where a route was sought in them and found
+// (`read-is-best`).
+pub fn write_route(layers: &[u8], grid: Grid, trip: Trip, stretch: &mut [u8])
+    requires { ⌜ Layered (grid .width) (grid .height) (trip .horizon) (now layers) × (trip .start < grid .width * grid .height) × (length (now stretch) ≡ trip .horizon + 1) ⌝ }
+    ensures { λ _. ⌜ now (stretch .exit) ≡ readRoute (grid .width) (grid .height) (trip .horizon) (now (layers .entry)) (trip .start) ⌝ }
 {
-    if layers::level_at(layers, start) == layers::NO_WAY {
-        return;
-    }
-    let size = width * height;
-    let mut v = start;
+    let size = grid.width * grid.height;
+    let h = trip.horizon;
+    let mut v = trip.start;
     let mut t = 0;
-    while layers::level_at(layers, t * size + v) != 0 {
-        if layers::CROSSING <= layers[t * size + v] {
-            write_barred(
-                hall,
-                width,
-                height,
-                goal,
-                h,
-                columns,
-                capacity,
-                node,
-                carrier,
-                bar,
-                layers,
-                t,
-                v,
-                stretch,
-            );
-            return;
-        }
+    while goes_on(layers, h, t, t * size + v) {
         stretch[t] = v as u8;
-        v = step_on(layers, width, height, t, v, 0);
+        v = step_on(layers, grid, h, t, v);
         t += 1;
     }
     stay_on(t, v, stretch);

@@ -1,21 +1,23 @@
-//! `brute SEED COUNT` tries COUNT random small jobs: the planner against brute
-//! force (a) and against the rules taken word by word, routes under random bars
-//! against the list of all routes, and the two plan checks against brute force
-//! (b) and the list of all walks; and, with as many jobs in which ends are often
-//! shared, refusals 6, 16 and 7 against the list of all pairs and each table's
-//! sentence. It prints counts, and stops at the first difference with the job
-//! printed.
+//! `brute SEED COUNT` tries COUNT random small jobs, and as many in which carriers
+//! have to wait: the planner against brute force (a) and against the rules taken
+//! word by word, routes under random bars against the list of all routes, and the
+//! two plan checks against brute force (b) and the list of all walks; and, also
+//! with as many jobs in which ends are often shared, refusals 6, 16 and 7 against
+//! the list of all pairs and each table's sentence. It prints counts, among them
+//! how many routes and answers would show each wrong turn with P2, and stops at
+//! the first difference with the job printed.
 
 use std::collections::BTreeMap;
 use std::process::ExitCode;
 
 use second::bar::{Bar, Barred, CarrierBar};
+use second::brute::wrong_turns::WRONG_TURNS;
 use second::brute::{holds, least_sum, loops, refusals, tree_by_words, walks};
 use second::check;
 use second::damage;
 use second::floor::Floor;
 use second::generate;
-use second::job::{Job, MOST_RECORDS};
+use second::job::{Carrier, Job, MOST_RECORDS};
 use second::planner::{self, PlanAnswer};
 use second::random::Random;
 use second::route;
@@ -29,7 +31,10 @@ const MANY_RECORDS: usize = 20_000;
 /// a tree is grown only to see that one is.
 const FEW_RECORDS: usize = 4;
 
-type Counts = BTreeMap<&'static str, usize>;
+/// The records with which it is seen whether a wrong turn alters an answer.
+const TURN_RECORDS: usize = 64;
+
+type Counts = BTreeMap<String, usize>;
 type Trial = Result<(), String>;
 
 fn main() -> ExitCode {
@@ -41,7 +46,7 @@ fn main() -> ExitCode {
     let mut random = Random::new(seed);
     let mut counts = Counts::new();
     for number in 0..count {
-        if let Err(difference) = try_both(&mut random, &mut counts) {
+        if let Err(difference) = try_each(&mut random, &mut counts) {
             println!("job {number} of seed {seed}: {difference}");
             return ExitCode::FAILURE;
         }
@@ -60,11 +65,14 @@ fn request(arguments: &[String]) -> Option<(u64, usize)> {
     Some((seed.parse().ok()?, count.parse().ok()?))
 }
 
-/// A small job, and for the refusals also one in which ends are often shared.
-fn try_both(random: &mut Random, counts: &mut Counts) -> Trial {
-    let small = generate::small(random);
-    try_job(random, &small, counts).map_err(|why| format!("{why}\n{small:?}"))?;
-    for job in [small, damage::sharing_job(random)] {
+/// A small job, one in which carriers have to wait, and for the refusals also one
+/// in which ends are often shared.
+fn try_each(random: &mut Random, counts: &mut Counts) -> Trial {
+    let (small, waiting) = (generate::small(random), generate::small_waiting(random));
+    for job in [&small, &waiting] {
+        try_job(random, job, counts).map_err(|why| format!("{why}\n{job:?}"))?;
+    }
+    for job in [small, waiting, damage::sharing_job(random)] {
         try_refusals(random, &job, counts).map_err(|why| format!("{why}\n{job:?}"))?;
     }
     Ok(())
@@ -73,6 +81,7 @@ fn try_both(random: &mut Random, counts: &mut Counts) -> Trial {
 fn try_job(random: &mut Random, job: &Job, counts: &mut Counts) -> Trial {
     let answer = planner::plan(job, MOST_RECORDS);
     try_tree(random, job, &answer, counts)?;
+    count_turns_in_answers(job, counts);
     try_least_sum(job, &answer, counts)?;
     try_bars(random, job, counts)?;
     for (kind, plan) in plans(random, job, &answer) {
@@ -88,8 +97,8 @@ fn same<T: PartialEq + std::fmt::Debug>(what: &str, one: T, two: T) -> Trial {
     Err(format!("{what}: {one:?}, by brute force {two:?}"))
 }
 
-fn count(counts: &mut Counts, what: &'static str) {
-    *counts.entry(what).or_default() += 1;
+fn count(counts: &mut Counts, what: &str) {
+    *counts.entry(what.to_string()).or_default() += 1;
 }
 
 /// The planner's answer against the least sum of all plans. Where it is 9 the
@@ -161,26 +170,89 @@ fn try_tree(random: &mut Random, job: &Job, answer: &PlanAnswer, counts: &mut Co
     Ok(())
 }
 
-/// Routes under random bars against the list of all routes.
+/// How many answers would show each wrong turn.
+fn count_turns_in_answers(job: &Job, counts: &mut Counts) {
+    let right = tree_by_words::search(job, TURN_RECORDS);
+    for turn in &WRONG_TURNS {
+        if turn.answer(job, TURN_RECORDS) != right {
+            count(counts, &format!("an answer would show: {}", turn.name));
+        }
+    }
+}
+
+/// Routes under bars against the list of all routes.
 fn try_bars(random: &mut Random, job: &Job, counts: &mut Counts) -> Trial {
-    let floor = Floor::new(job);
-    for (i, &carrier) in job.carriers.iter().enumerate() {
-        let bars: Vec<Bar> = (0..random.below(7)).map(|_| bar(random, job)).collect();
-        let own = bars.iter().map(|&bar| CarrierBar { carrier: i, bar });
-        let barred = Barred::of(i, &own.collect::<Vec<_>>());
-        let found = route::best_route(&floor, carrier, job.horizon, &barred);
+    for &carrier in &job.carriers {
         let ranked = walks::ranked_routes(job, carrier);
-        let wanted = walks::first_kept(&ranked, &bars).cloned();
-        count(
-            counts,
-            match wanted {
-                Some(_) => "bars: a route",
-                None => "bars: no route",
-            },
-        );
-        same("route under bars", found, wanted).map_err(|why| format!("{bars:?}: {why}"))?;
+        let anywhere: Vec<Bar> = (0..random.below(7)).map(|_| bar(random, job)).collect();
+        for bars in [anywhere, bars_in_the_way(random, &ranked)] {
+            let wanted = walks::first_kept(&ranked, &bars);
+            try_route(job, carrier, &bars, wanted).map_err(|why| format!("{bars:?}: {why}"))?;
+            count_route(job, carrier, &bars, wanted, counts);
+        }
     }
     Ok(())
+}
+
+fn try_route(job: &Job, carrier: Carrier, bars: &[Bar], wanted: Option<&Vec<u8>>) -> Trial {
+    let own = bars.iter().map(|&bar| CarrierBar { carrier: 0, bar });
+    let barred = Barred::of(0, &own.collect::<Vec<_>>());
+    let found = route::best_route(&Floor::new(job), carrier, job.horizon, &barred);
+    same("route under bars", found.as_ref(), wanted)
+}
+
+/// Whether there is a route, and each wrong turn that it would show.
+fn count_route(
+    job: &Job,
+    carrier: Carrier,
+    bars: &[Bar],
+    wanted: Option<&Vec<u8>>,
+    counts: &mut Counts,
+) {
+    let Some(right) = wanted else {
+        count(counts, "bars: no route");
+        return;
+    };
+    count(counts, "bars: a route");
+    for turn in &WRONG_TURNS {
+        if turn.route(job, carrier, bars).as_ref() != Some(right) {
+            count(counts, &format!("a route would show: {}", turn.name));
+        }
+    }
+}
+
+/// Bars as a tree makes them: each stands in the way of the route that is the
+/// best under those before it.
+fn bars_in_the_way(random: &mut Random, ranked: &[Vec<u8>]) -> Vec<Bar> {
+    let mut bars = Vec::new();
+    for _ in 0..random.between(1, 4) {
+        let Some(route) = walks::first_kept(ranked, &bars) else {
+            break;
+        };
+        bars.push(bar_on(random, route));
+    }
+    bars
+}
+
+/// A bar on a step of the route or on its crossing there; seldom on step 0 or on
+/// H, since then no route is left.
+fn bar_on(random: &mut Random, route: &[u8]) -> Bar {
+    let last = route.len() - 1;
+    let first = last.min(usize::from(random.chance(95)));
+    let step = random.between(first, first.max(last.saturating_sub(1)));
+    let next = route[last.min(step + 1)];
+    if random.chance(40) && next != route[step] {
+        return Bar::Crossing {
+            from: route[step],
+            to: next,
+            step,
+        };
+    }
+    Bar::Standing {
+        cell: route[step],
+        first: step,
+        last: step + random.below(4),
+    }
 }
 
 /// A random bar, sometimes on a goal and late, sometimes past H. A crossing

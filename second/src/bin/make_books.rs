@@ -82,8 +82,9 @@ fn make(request: &Request) -> Books {
 /// (and now and then) any, lawful or not.
 fn book_and_capacity(random: &mut Random) -> (Vec<u8>, usize) {
     let book = match random.below(100) {
-        0..=39 => Bodies::of(&generate::job(random)).bind(),
-        40..=89 => Bodies::of(&generate::crowded(random)).bind(),
+        0..=29 => Bodies::of(&generate::job(random)).bind(),
+        30..=54 => Bodies::of(&generate::waiting(random)).bind(),
+        55..=89 => Bodies::of(&generate::crowded(random)).bind(),
         90..=96 => Bodies::of(&damage::refused_job(random)).bind(),
         _ => damage::damaged_book(random),
     };

@@ -8,3 +8,4 @@ pub mod loops;
 pub mod refusals;
 pub mod tree_by_words;
 pub mod walks;
+pub mod wrong_turns;

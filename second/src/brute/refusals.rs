@@ -35,7 +35,8 @@ pub fn shared(job: &Job) -> Option<(usize, usize, usize)> {
     Some((16, i, j))
 }
 
-/// "the first short table, in document 01's order, and the length it needed".
+/// "the first short table, in document 01's order, and the length it needed"; the
+/// layers as P2 has them, "twice its length".
 pub fn short_table(job: &Job, n: usize, lengths: [usize; 4]) -> Option<(usize, usize)> {
     let [columns, plans, layers, output] = lengths;
     let (m, steps) = (job.carriers.len(), job.horizon + 1);
@@ -45,8 +46,9 @@ pub fn short_table(job: &Job, n: usize, lengths: [usize; 4]) -> Option<(usize, u
     if plans < n * m * steps {
         return Some((1, n * m * steps));
     }
-    if layers < steps * job.width * job.height {
-        return Some((2, steps * job.width * job.height));
+    let once = steps * job.width * job.height;
+    if layers < once + once {
+        return Some((2, once + once));
     }
     (output < m * steps).then_some((3, m * steps))
 }

@@ -1,5 +1,5 @@
 //! Rules 1 to 7 once more, word by word and slowly: each carrier's routes are
-//! listed in rule 2's order once, the bars that bind a node are found by going
+//! listed in the order of rule 2 and P2 once, the bars that bind a node are found by going
 //! up its ancestors, and the open node to be taken by looking at all nodes.
 
 use crate::bar::Bar;
@@ -16,10 +16,18 @@ struct Node {
     open: bool,
 }
 
+/// All routes of each carrier, the better one first.
+pub type Ranked = Vec<Vec<Vec<u8>>>;
+
 /// The tree of a job that passed checks 1 to 6 and 16, with N from 1.
 pub fn search(job: &Job, capacity: usize) -> Told {
     let carriers = job.carriers.iter();
-    let ranked: Vec<_> = carriers.map(|c| walks::ranked_routes(job, *c)).collect();
+    let ranked: Ranked = carriers.map(|c| walks::ranked_routes(job, *c)).collect();
+    search_among(job, capacity, &ranked)
+}
+
+/// The same with the routes in this order, whatever it is.
+pub fn search_among(job: &Job, capacity: usize, ranked: &Ranked) -> Told {
     if ranked.iter().any(Vec::is_empty) {
         return (8, 0, 0, vec![]);
     }
@@ -36,7 +44,7 @@ pub fn search(job: &Job, capacity: usize) -> Told {
             return (0, sum(job, &nodes[number]), nodes.len(), routes);
         };
         for bar in bars {
-            let Some(child) = child(&nodes, number, bar, &ranked) else {
+            let Some(child) = child(&nodes, number, bar, ranked) else {
                 continue;
             };
             if nodes.len() == capacity {
@@ -74,7 +82,7 @@ fn child(
     nodes: &[Node],
     parent: usize,
     (carrier, bar): (usize, Bar),
-    ranked: &[Vec<Vec<u8>>],
+    ranked: &Ranked,
 ) -> Option<Node> {
     let mut bars = binding(nodes, parent, carrier);
     bars.push(bar);

@@ -6,6 +6,10 @@ use crate::job::{Carrier, Job};
 /// "a constant table holds the five moves as changes of row and column".
 const MOVES: [(isize, isize); 5] = [(0, 0), (-1, 0), (1, 0), (0, -1), (0, 1)];
 
+/// What stands before the dictionary in an order of routes: asked of a route and
+/// its goal, the least list comes first.
+pub type Rank = fn(&[u8], u8) -> Vec<usize>;
+
 /// Every lawful walk of this many steps from the cell.
 pub fn walks(job: &Job, start: u8, steps: usize) -> Vec<Vec<u8>> {
     let mut walks = vec![vec![start]];
@@ -31,10 +35,25 @@ pub fn cost(route: &[u8], goal: u8) -> usize {
     found.expect("the route ends on the goal")
 }
 
-/// Every lawful route, in rule 2's order: by cost, then by the dictionary.
+/// The moves by their words: every step from 1 to H at which the carrier is not
+/// where it was a step before.
+pub fn moves(route: &[u8]) -> usize {
+    let steps = 1..route.len();
+    steps.filter(|&step| route[step] != route[step - 1]).count()
+}
+
+/// Every lawful route, in the order of rule 2 and P2: "least cost", then "the
+/// fewest moves", then "the first in dictionary order".
 pub fn ranked_routes(job: &Job, carrier: Carrier) -> Vec<Vec<u8>> {
+    let rule = |route: &[u8], goal: u8| vec![cost(route, goal), moves(route)];
+    routes_by(job, carrier, rule)
+}
+
+/// Every lawful route, by what the rank says of route and goal, then by the
+/// dictionary.
+pub fn routes_by(job: &Job, carrier: Carrier, rank: Rank) -> Vec<Vec<u8>> {
     let mut routes = routes(job, carrier);
-    routes.sort_by_cached_key(|route| (cost(route, carrier.goal), route.clone()));
+    routes.sort_by_cached_key(|route| (rank(route, carrier.goal), route.clone()));
     routes
 }
 

@@ -1,47 +1,92 @@
--- `layers::fill_back` meets its contract: the layers from step t on are made. Assumes nothing.
-use borrow.Author.Needs.{needs}
+-- The layers from step t on are made. Assumes nothing.
 use native.Mathlib.Omega.{arith}
-use Prim.Native.Nat.{_-_, _*_, _≤_}
-use mathlib.Core.Path.{_≡_, subst}
-use Rattle.layers.specs.Fill.{lentHall, MadeFrom}
-use Rattle.hall.proofs.HallCode.{area-small}
-use Rattle.layers.proofs.MadeLaws.{layers-none, layers-more, one-more}
-use Rattle.lists.proofs.Parts.{part-within}
+use Prim.Native.Nat.{_+_, _-_, _*_}
+use mathlib.Core.Path.{_≡_, refl, subst}
+use Rattle.layers.proofs.LayerLaws.{half-small, half-turned}
+use Rattle.layers.proofs.PassLaws.{pass-bounds, next-layer, Passing, passing-begins, passing-more, passing-ends, none-crossing}
 use Rattle.layers.proofs.fill_back.Statement.{statement}
 use Rattle.layers.proofs.fill_back.Tie as tie
 
 abbrev Inv-loop : tie.InvT-loop
-Inv-loop hall floor width height goal h layers₀ t₀ layers t = (t ≤ h) × MadeFrom (lentHall width height hall) goal h t layers₀ layers
+Inv-loop floor grid last moves crossing layers₀ size plane goal shuts₀ slate₀ first shut level from₀ t₀ layers shuts slate from t = Passing grid floor moves crossing goal plane last layers₀ layers shuts slate from t
 
 abbrev μ-loop : tie.MeasureT-loop
-μ-loop hall floor width height goal h layers₀ t₀ layers t = t
+μ-loop floor grid last moves crossing layers₀ size plane goal shuts₀ slate₀ first shut level from₀ t₀ layers shuts slate from t = t
+
+mul-size : tie.Need-mul-size Inv-loop μ-loop
+mul-size c = let b = pass-bounds (c .before .before .args .grid) (c .before .before .args .trip) (c .before .before .args .last) (c .before .before .args .layers .now) (c .before .before .pre .0) 0 (omega arith) in omega (arith, b .small)
+
+add-plane : tie.Need-add-plane Inv-loop μ-loop
+add-plane c = let l = c .before .before .before .pre .0 .late in omega arith
+
+mul-plane : tie.Need-mul-plane Inv-loop μ-loop
+mul-plane c = let b = pass-bounds (c .before .before .before .args .grid) (c .before .before .before .args .trip) (c .before .before .before .args .last) (c .before .before .before .args .layers .now) (c .before .before .before .pre .0) 0 (omega arith) in omega (arith, b .whole)
+
+mul-first : tie.Need-mul-first Inv-loop μ-loop
+mul-first c = let b = pass-bounds (c .before .before .before .before .args .grid) (c .before .before .before .before .args .trip) (c .before .before .before .before .args .last) (c .before .before .before .before .args .layers .now) (c .before .before .before .before .pre .0) (c .before .before .before .before .args .last) (omega arith) in omega (arith, b .whole, b .layer)
+
+lay-marks-requires : tie.Need-lay-marks-requires Inv-loop μ-loop
+lay-marks-requires c κs = let b = pass-bounds (c .before .before .before .before .before .args .grid) (c .before .before .before .before .before .args .trip) (c .before .before .before .before .before .args .last) (c .before .before .before .before .before .args .layers .now) (c .before .before .before .before .before .pre .0) (c .before .before .before .before .before .args .last) (omega arith) in omega (arith, b .small, b .layer, c .before .before .before .before .before .pre .0 .room, c .before .before .before .before .before .pre .0 .late, c .before .before .before .before .before .pre .0 .within)
+
+add-shut : tie.Need-add-shut Inv-loop μ-loop
+add-shut c = let b = pass-bounds (c .before .before .before .before .before .before .before .before .args .grid) (c .before .before .before .before .before .before .before .before .args .trip) (c .before .before .before .before .before .before .before .before .args .last) (c .before .before .before .before .before .before .before .before .args .layers .now) (c .before .before .before .before .before .before .before .before .pre .0) 0 (omega arith) in omega (arith, b .small, c .before .before .before .before .before .before .before .before .pre .0 .inside)
+
+array-read-shut : tie.Need-array-read-shut Inv-loop μ-loop
+array-read-shut c = let b = pass-bounds (c .before .before .before .before .before .before .before .before .args .grid) (c .before .before .before .before .before .before .before .before .args .trip) (c .before .before .before .before .before .before .before .before .args .last) (c .before .before .before .before .before .before .before .before .args .layers .now) (c .before .before .before .before .before .before .before .before .pre .0) 0 (omega arith) in omega (arith, b .small, c .before .before .before .before .before .before .before .before .pre .0 .inside)
+
+arrives-requires : tie.Need-arrives-requires Inv-loop μ-loop
+arrives-requires c κs = omega (arith, c .before .before .before .before .before .before .before .before .pre .0 .late, c .before .before .before .before .before .before .before .before .pre .0 .within)
+
+lay-arrival-requires : tie.Need-lay-arrival-requires Inv-loop μ-loop
+lay-arrival-requires c κs = let b = pass-bounds (c .before .before .before .before .before .before .before .before .before .before .before .args .grid) (c .before .before .before .before .before .before .before .before .before .before .before .args .trip) (c .before .before .before .before .before .before .before .before .before .before .before .args .last) (c .before .before .before .before .before .before .before .before .before .before .before .args .layers .now) (c .before .before .before .before .before .before .before .before .before .before .before .pre .0) (c .before .before .before .before .before .before .before .before .before .before .before .args .last) (omega arith) in (omega (arith, b .small, b .layer, c .before .before .before .before .before .before .before .before .before .before .before .pre .0 .room, c .before .before .before .before .before .before .before .before .before .before .before .pre .0 .inside, c .before .before .before .before .before .lay-marks .ensures .long), refl)
 
 loop-holds : tie.Need-loop-holds Inv-loop μ-loop
-loop-holds c = (omega arith, layers-none (lentHall (c .before .before .before .args .width) (c .before .before .before .args .height) (c .before .before .before .args .hall .now)) (c .before .before .before .args .goal) (c .before .before .before .args .h) (c .before .before .before .args .layers .now))
+loop-holds c = passing-begins (c .before .before .before .before .before .before .before .before .before .before .before .before .before .before .args .grid) (c .before .before .before .before .before .before .before .before .before .before .before .before .before .before .args .floor .now) (c .before .before .before .before .before .before .before .before .before .before .before .before .before .before .args .moves) (c .before .before .before .before .before .before .before .before .before .before .before .before .before .before .args .crossing) (c .before .before .before .before .before .before .before .before .before .before .before .before .before .before .args .trip .goal) ((c .before .before .before .before .before .before .before .before .before .before .before .before .before .before .args .trip .horizon + 1) * (c .before .before .before .before .before .before .before .before .before .before .before .before .before .before .args .grid .width * c .before .before .before .before .before .before .before .before .before .before .before .before .before .before .args .grid .height)) (c .before .before .before .before .before .before .before .before .before .before .before .before .before .before .args .last) (c .before .before .lay-arrival .last .1 .1 .1 .1 .1 .1 .0) (c .before .before .lay-arrival .last .1 .1 .1 .1 .1 .0) (c .before .before .lay-arrival .ensures .copied) (c .before .before .lay-arrival .ensures .wide) (c .before .before .lay-arrival .ensures .pads)
 
 sub-t : tie.Need-sub-t Inv-loop μ-loop
 sub-t c = omega arith
 
-mul-fill-layer : tie.Need-mul-fill-layer Inv-loop μ-loop
-mul-fill-layer c = let small = area-small {w = c .before .before .before .before .before .args .width} {h = c .before .before .before .before .before .args .height} (omega arith) (omega arith) in omega arith
+mul-base : tie.Need-mul-base Inv-loop μ-loop
+mul-base c = let b = pass-bounds (c .before .before .before .before .before .before .before .before .before .before .before .before .before .before .before .before .args .grid) (c .before .before .before .before .before .before .before .before .before .before .before .before .before .before .before .before .args .trip) (c .before .before .before .before .before .before .before .before .before .before .before .before .before .before .before .before .args .last) (c .before .before .before .before .before .before .before .before .before .before .before .before .before .before .before .before .args .layers .now) (c .before .before .before .before .before .before .before .before .before .before .before .before .before .before .before .before .pre .0) (c .before .loop .t - 1) (omega (arith, c .before .loop .inv .within)) in omega (arith, b .whole, b .layer)
 
-mul-fill-layer-2 : tie.Need-mul-fill-layer-2 Inv-loop μ-loop
-mul-fill-layer-2 c = let apart = part-within (c .before .loop .t - 1) (c .before .before .before .before .before .args .h) (c .before .before .before .before .before .args .width * c .before .before .before .before .before .args .height) (omega arith) in let last = one-more (c .before .before .before .before .before .args .h) (c .before .before .before .before .before .args .width * c .before .before .before .before .before .args .height) in omega (arith, c .before .loop .inv .1 .long)
+add-lay-shuts : tie.Need-add-lay-shuts Inv-loop μ-loop
+add-lay-shuts c = let b = pass-bounds (c .before .before .before .before .before .before .before .before .before .before .before .before .before .before .before .before .before .args .grid) (c .before .before .before .before .before .before .before .before .before .before .before .before .before .before .before .before .before .args .trip) (c .before .before .before .before .before .before .before .before .before .before .before .before .before .before .before .before .before .args .last) (c .before .before .before .before .before .before .before .before .before .before .before .before .before .before .before .before .before .args .layers .now) (c .before .before .before .before .before .before .before .before .before .before .before .before .before .before .before .before .before .pre .0) (c .before .before .loop .t - 1) (omega (arith, c .before .before .loop .inv .within)) in omega (arith, b .whole, b .layer)
+
+lay-shuts-requires : tie.Need-lay-shuts-requires Inv-loop μ-loop
+lay-shuts-requires c κs = let b = pass-bounds (c .before .before .before .before .before .before .before .before .before .before .before .before .before .before .before .before .before .before .args .grid) (c .before .before .before .before .before .before .before .before .before .before .before .before .before .before .before .before .before .before .args .trip) (c .before .before .before .before .before .before .before .before .before .before .before .before .before .before .before .before .before .before .args .last) (c .before .before .before .before .before .before .before .before .before .before .before .before .before .before .before .before .before .before .args .layers .now) (c .before .before .before .before .before .before .before .before .before .before .before .before .before .before .before .before .before .before .pre .0) (c .before .before .before .loop .t - 1) (omega (arith, c .before .before .before .loop .inv .within)) in omega (arith, b .small, b .layer, c .before .before .before .before .before .before .before .before .before .before .before .before .before .before .before .before .before .before .pre .0 .room, c .before .before .before .loop .inv .long, c .before .before .before .before .before .before .lay-arrival .ensures .layer .long, c .before .before .before .before .before .before .before .before .before .before .before .before .lay-marks .ensures .long)
+
+lay-marks-requires-2 : tie.Need-lay-marks-requires-2 Inv-loop μ-loop
+lay-marks-requires-2 c κs = let b = pass-bounds (c .before .before .before .before .before .before .before .before .before .before .before .before .before .before .before .before .before .before .before .before .args .grid) (c .before .before .before .before .before .before .before .before .before .before .before .before .before .before .before .before .before .before .before .before .args .trip) (c .before .before .before .before .before .before .before .before .before .before .before .before .before .before .before .before .before .before .before .before .args .last) (c .before .before .before .before .before .before .before .before .before .before .before .before .before .before .before .before .before .before .before .before .args .layers .now) (c .before .before .before .before .before .before .before .before .before .before .before .before .before .before .before .before .before .before .before .before .pre .0) (c .before .before .before .before .before .loop .t - 1) (omega (arith, c .before .before .before .before .before .loop .inv .within)) in omega (arith, b .small, b .layer, c .before .before .before .before .before .before .before .before .before .before .before .before .before .before .before .before .before .before .before .before .pre .0 .room, c .before .before .before .before .before .before .before .before .before .before .before .before .before .before .before .before .before .before .before .before .pre .0 .late, c .before .before .before .before .before .before .before .before .before .before .before .before .before .before .before .before .before .before .before .before .pre .0 .within, c .before .before .before .before .before .loop .inv .long, c .before .before .before .before .before .before .before .before .lay-arrival .ensures .layer .long, c .before .before .before .before .before .before .before .before .before .before .before .before .before .before .lay-marks .ensures .long)
 
 fill-layer-requires : tie.Need-fill-layer-requires Inv-loop μ-loop
-fill-layer-requires c κs = (let apart = part-within (c .before .before .loop .t - 1) (c .before .before .before .before .before .before .args .h) (c .before .before .before .before .before .before .args .width * c .before .before .before .before .before .before .args .height) (omega arith) in let last = one-more (c .before .before .before .before .before .before .args .h) (c .before .before .before .before .before .before .args .width * c .before .before .before .before .before .before .args .height) in omega (arith, c .before .before .loop .inv .1 .long), c .before .before .before .before .before .before .pre .1)
+fill-layer-requires c κs = let b = pass-bounds (c .before .before .before .before .before .before .before .before .before .before .before .before .before .before .before .before .before .before .before .before .before .before .before .before .before .before .args .grid) (c .before .before .before .before .before .before .before .before .before .before .before .before .before .before .before .before .before .before .before .before .before .before .before .before .before .before .args .trip) (c .before .before .before .before .before .before .before .before .before .before .before .before .before .before .before .before .before .before .before .before .before .before .before .before .before .before .args .last) (c .before .before .before .before .before .before .before .before .before .before .before .before .before .before .before .before .before .before .before .before .before .before .before .before .before .before .args .layers .now) (c .before .before .before .before .before .before .before .before .before .before .before .before .before .before .before .before .before .before .before .before .before .before .before .before .before .before .pre .0) (c .before .before .before .before .before .before .before .before .before .before .before .loop .t - 1) (omega (arith, c .before .before .before .before .before .before .before .before .before .before .before .loop .inv .within)) in (omega (arith, c .before .before .before .before .before .before .before .before .before .before .before .before .before .before .before .before .before .before .before .before .before .before .before .before .before .before .pre .0 .some), omega (arith, c .before .before .before .before .before .before .before .before .before .before .before .before .before .before .before .before .before .before .before .before .before .before .before .before .before .before .pre .0 .wide), omega (arith, b .small), omega (arith, b .layer, c .before .before .before .before .before .before .before .before .before .before .before .before .before .before .before .before .before .before .before .before .before .before .before .before .before .before .pre .0 .room, c .before .before .before .before .before .lay-marks2 .ensures .long, c .before .before .before .before .before .before .before .before .before .before .before .loop .inv .long, c .before .before .before .before .before .before .before .before .before .before .before .before .before .before .lay-arrival .ensures .layer .long, c .before .before .before .before .before .before .before .before .before .before .before .before .before .before .before .before .before .before .before .before .lay-marks .ensures .long), omega (arith, c .before .before .before .before .before .before .before .before .before .before .before .loop .inv .wide), c .before .before .before .before .before .before .before .before .before .before .before .loop .inv .half)
+
+sub-from : tie.Need-sub-from Inv-loop μ-loop
+sub-from c = omega (arith, half-small (c .before .before .before .before .before .before .before .before .before .before .before .before .before .before .loop .from) (c .before .before .before .before .before .before .before .before .before .before .before .before .before .before .loop .inv .half))
+
+rest-end-requires : tie.Need-rest-end-requires Inv-loop μ-loop
+rest-end-requires c κs = let b = pass-bounds (c .before .before .before .before .before .before .before .before .before .before .before .before .before .before .before .before .before .before .before .before .before .before .before .before .before .before .before .before .before .before .before .args .grid) (c .before .before .before .before .before .before .before .before .before .before .before .before .before .before .before .before .before .before .before .before .before .before .before .before .before .before .before .before .before .before .before .args .trip) (c .before .before .before .before .before .before .before .before .before .before .before .before .before .before .before .before .before .before .before .before .before .before .before .before .before .before .before .before .before .before .before .args .last) (c .before .before .before .before .before .before .before .before .before .before .before .before .before .before .before .before .before .before .before .before .before .before .before .before .before .before .before .before .before .before .before .args .layers .now) (c .before .before .before .before .before .before .before .before .before .before .before .before .before .before .before .before .before .before .before .before .before .before .before .before .before .before .before .before .before .before .before .pre .0) (c .before .before .before .before .before .before .before .before .before .before .before .before .before .before .before .before .loop .t - 1) (omega (arith, c .before .before .before .before .before .before .before .before .before .before .before .before .before .before .before .before .loop .inv .within)) in ((c .before .before .before .before .before .before .before .before .before .before .before .before .before .before .before .before .before .before .before .before .before .before .before .before .before .before .before .before .before .before .before .pre .0 .inside, b .small, omega (arith, c .before .before .before .before .before .before .before .before .before .before .before .before .before .before .before .loop-test .taken, c .before .before .before .before .before .before .before .before .before .before .before .before .before .before .before .before .loop .inv .within, c .before .before .before .before .before .before .before .before .before .before .before .before .before .before .before .before .before .before .before .before .before .before .before .before .before .before .before .before .before .before .before .pre .0 .within, c .before .before .before .before .before .before .before .before .before .before .before .before .before .before .before .before .before .before .before .before .before .before .before .before .before .before .before .before .before .before .before .pre .0 .late), omega (arith, b .layer, c .before .before .before .before .before .before .before .before .before .before .before .before .before .before .before .before .before .before .before .before .before .before .before .before .before .before .before .before .before .before .before .pre .0 .room, c .before .before .before .before .before .before .before .before .before .before .lay-marks2 .ensures .long, c .before .before .before .before .fill-layer .ensures .layer .long, c .before .before .before .before .before .before .before .before .before .before .before .before .before .before .before .before .loop .inv .long, c .before .before .before .before .before .before .before .before .before .before .before .before .before .before .before .before .before .before .before .lay-arrival .ensures .layer .long, c .before .before .before .before .before .before .before .before .before .before .before .before .before .before .before .before .before .before .before .before .before .before .before .before .before .lay-marks .ensures .long), omega (arith, c .before .before .before .before .fill-layer .ensures .wide, c .before .before .before .before .before .before .before .before .before .before .before .before .before .before .before .before .loop .inv .wide), half-turned (c .before .before .before .before .before .before .before .before .before .before .before .before .before .before .before .before .loop .from) (c .before .before .before .before .before .before .before .before .before .before .before .before .before .before .before .before .loop .inv .half)), c .before .before .before .before .fill-layer .ensures .copied)
 
 loop-less : tie.Need-loop-less Inv-loop μ-loop
 loop-less c = omega arith
 
 loop-again : tie.Need-loop-again Inv-loop μ-loop
-loop-again c = (omega arith, layers-more (lentHall (c .before .before .before .before .before .before .before .before .before .args .width) (c .before .before .before .before .before .before .before .before .before .args .height) (c .before .before .before .before .before .before .before .before .before .args .hall .now)) (c .before .before .before .before .before .before .before .before .before .args .goal) (c .before .before .before .before .before .before .before .before .before .args .h) (c .before .before .before .before .before .before .before .before .before .args .layers .now) (c .before .before .before .before .before .loop .t - 1) (c .before .before .before .before .before .loop .t) (c .before .before .before .before .before .loop .layers) (c .before .before .fill-layer .last .1 .1 .1 .1 .1 .1 .0) (c .before .before .before .before .before .loop .inv .1) (omega arith) (c .before .before .before .before .before .loop .inv .0) (c .before .before .fill-layer .ensures))
+loop-again c = let b = pass-bounds (c .before .before .before .before .before .before .before .before .before .before .before .before .before .before .before .before .before .before .before .before .before .before .before .before .before .before .before .before .before .before .before .before .before .before .args .grid) (c .before .before .before .before .before .before .before .before .before .before .before .before .before .before .before .before .before .before .before .before .before .before .before .before .before .before .before .before .before .before .before .before .before .before .args .trip) (c .before .before .before .before .before .before .before .before .before .before .before .before .before .before .before .before .before .before .before .before .before .before .before .before .before .before .before .before .before .before .before .before .before .before .args .last) (c .before .before .before .before .before .before .before .before .before .before .before .before .before .before .before .before .before .before .before .before .before .before .before .before .before .before .before .before .before .before .before .before .before .before .args .layers .now) (c .before .before .before .before .before .before .before .before .before .before .before .before .before .before .before .before .before .before .before .before .before .before .before .before .before .before .before .before .before .before .before .before .before .before .pre .0) (c .before .before .before .before .before .before .before .before .before .before .before .before .before .before .before .before .before .before .before .before .before .before .before .before .before .before .before .before .before .before .before .before .before .before .args .last) (omega arith) in
+    let e : c .before .before .before .before .before .before .before .before .before .before .before .before .before .before .before .before .before .before .before .loop .t ≡ c .before .before .before .before .before .before .before .before .before .before .before .before .before .before .before .before .before .before .before .loop .t - 1 + 1 = omega (arith, c .before .before .before .before .before .before .before .before .before .before .before .before .before .before .before .before .before .before .loop-test .taken) in
+    passing-more (c .before .before .before .before .before .before .before .before .before .before .before .before .before .before .before .before .before .before .before .before .before .before .before .before .before .before .before .before .before .before .before .before .before .before .args .grid) (c .before .before .before .before .before .before .before .before .before .before .before .before .before .before .before .before .before .before .before .before .before .before .before .before .before .before .before .before .before .before .before .before .before .before .args .floor .now) (c .before .before .before .before .before .before .before .before .before .before .before .before .before .before .before .before .before .before .before .before .before .before .before .before .before .before .before .before .before .before .before .before .before .before .args .moves) (c .before .before .before .before .before .before .before .before .before .before .before .before .before .before .before .before .before .before .before .before .before .before .before .before .before .before .before .before .before .before .before .before .before .before .args .crossing) (c .before .before .before .before .before .before .before .before .before .before .before .before .before .before .before .before .before .before .before .before .before .before .before .before .before .before .before .before .before .before .before .before .before .before .args .trip .goal) ((c .before .before .before .before .before .before .before .before .before .before .before .before .before .before .before .before .before .before .before .before .before .before .before .before .before .before .before .before .before .before .before .before .before .before .args .trip .horizon + 1) * (c .before .before .before .before .before .before .before .before .before .before .before .before .before .before .before .before .before .before .before .before .before .before .before .before .before .before .before .before .before .before .before .before .before .before .args .grid .width * c .before .before .before .before .before .before .before .before .before .before .before .before .before .before .before .before .before .before .before .before .before .before .before .before .before .before .before .before .before .before .before .before .before .before .args .grid .height)) (c .before .before .before .before .before .before .before .before .before .before .before .before .before .before .before .before .before .before .before .before .before .before .before .before .before .before .before .before .before .before .before .before .before .before .args .last) (c .before .before .before .before .before .before .before .before .before .before .before .before .before .before .before .before .before .before .before .before .before .before .lay-arrival .last .1 .1 .1 .1 .1 .1 .0)
+    (omega (arith, b .layer))
+    (none-crossing (c .before .before .before .before .before .before .before .before .before .before .before .before .before .before .before .before .before .before .before .before .before .before .before .before .before .before .before .before .before .before .before .before .before .before .args .grid) (c .before .before .before .before .before .before .before .before .before .before .before .before .before .before .before .before .before .before .before .before .before .before .before .before .before .before .before .before .before .before .before .before .before .before .args .floor .now) (c .before .before .before .before .before .before .before .before .before .before .before .before .before .before .before .before .before .before .before .before .before .before .before .before .before .before .before .before .before .before .before .before .before .before .args .moves) (c .before .before .before .before .before .before .before .before .before .before .before .before .before .before .before .before .before .before .before .before .before .before .before .before .before .before .before .before .before .before .before .before .before .before .args .crossing) (c .before .before .before .before .before .before .before .before .before .before .before .before .before .before .before .before .before .before .before .before .before .before .before .before .before .before .before .before .before .before .before .before .before .before .args .trip .goal) ((c .before .before .before .before .before .before .before .before .before .before .before .before .before .before .before .before .before .before .before .before .before .before .before .before .before .before .before .before .before .before .before .before .before .before .args .trip .horizon + 1) * (c .before .before .before .before .before .before .before .before .before .before .before .before .before .before .before .before .before .before .before .before .before .before .before .before .before .before .before .before .before .before .before .before .before .before .args .grid .width * c .before .before .before .before .before .before .before .before .before .before .before .before .before .before .before .before .before .before .before .before .before .before .before .before .before .before .before .before .before .before .before .before .before .before .args .grid .height)) (c .before .before .before .before .before .before .before .before .before .before .before .before .before .before .before .before .before .before .before .before .before .before .before .before .before .before .before .before .before .before .before .before .before .before .args .last) (c .before .before .before .before .before .before .before .before .before .before .before .before .before .before .before .before .before .before .before .before .before .before .before .before .before .before .before .before .before .before .before .before .before .before .args .layers .now) (c .before .before .before .before .before .before .before .before .before .before .before .before .before .before .before .before .before .before .before .before .before .before .before .before .before .before .before .before .lay-marks .last .1 .1 .1 .1 .0) (c .before .before .before .before .before .before .before .before .before .before .before .before .before .before .before .before .before .before .before .before .before .before .lay-arrival .last .1 .1 .1 .1 .1 .1 .0) (c .before .before .before .before .before .before .before .before .before .before .before .before .before .before .before .before .before .before .before .before .before .before .lay-arrival .last .1 .1 .1 .1 .1 .0) _ (c .before .before .before .before .before .before .before .before .before .before .before .before .before .before .before .before .before .before .before .before .before .before .before .before .before .arrives .result) (c .before .before .before .before .before .before .before .before .before .before .before .before .before .before .before .before .before .before .before .before .before .before .before .before .before .before .before .before .lay-marks .ensures) refl (c .before .before .before .before .before .before .before .before .before .before .before .before .before .before .before .before .before .before .before .before .before .before .before .before .before .arrives .ensures) (c .before .before .before .before .before .before .before .before .before .before .before .before .before .before .before .before .before .before .before .before .before .before .lay-arrival .ensures) (c .before .before .before .before .before .before .before .before .before .before .before .before .before .before .before .before .before .before .before .before .before .before .before .before .before .before .before .before .before .before .before .before .before .before .args .trip .horizon) refl (c .before .before .before .before .before .before .before .before .before .before .before .before .before .before .before .before .before .before .before .before .before .before .before .before .before .before .before .before .before .before .before .before .before .before .pre .0 .within) (c .before .before .before .before .before .before .before .before .before .before .before .before .before .before .before .before .before .before .before .before .before .before .before .before .before .before .before .before .before .before .before .before .before .before .pre .1))
+    (c .before .before .before .before .before .before .before .before .before .before .before .before .before .before .before .before .before .before .before .before .before .before .before .before .before .before .before .before .before .before .before .before .before .before .pre .0 .some) (c .before .before .before .before .before .before .before .before .before .before .before .before .before .before .before .before .before .before .before .before .before .before .before .before .before .before .before .before .before .before .before .before .before .before .pre .0 .wide) (c .before .before .before .before .before .before .before .before .before .before .before .before .before .before .before .before .before .before .before .before .before .before .before .before .before .before .before .before .before .before .before .before .before .before .pre .0 .high)
+    (c .before .before .before .before .before .before .before .before .before .before .before .before .before .before .before .before .before .before .before .loop .layers) (c .before .before .before .before .before .before .before .before .before .before .before .before .before .before .before .before .before .before .before .loop .shuts) (c .before .before .before .before .before .before .before .before .before .before .before .before .before .before .before .before .before .before .before .loop .slate) (c .before .before .before .before .before .before .before .before .before .before .before .before .before .before .before .before .before .before .before .loop .from) (c .before .before .before .before .before .before .before .before .before .before .before .before .before .before .before .before .before .before .before .loop .t - 1)
+    (subst (Passing (c .before .before .before .before .before .before .before .before .before .before .before .before .before .before .before .before .before .before .before .before .before .before .before .before .before .before .before .before .before .before .before .before .before .before .args .grid) (c .before .before .before .before .before .before .before .before .before .before .before .before .before .before .before .before .before .before .before .before .before .before .before .before .before .before .before .before .before .before .before .before .before .before .args .floor .now) (c .before .before .before .before .before .before .before .before .before .before .before .before .before .before .before .before .before .before .before .before .before .before .before .before .before .before .before .before .before .before .before .before .before .before .args .moves) (c .before .before .before .before .before .before .before .before .before .before .before .before .before .before .before .before .before .before .before .before .before .before .before .before .before .before .before .before .before .before .before .before .before .before .args .crossing) (c .before .before .before .before .before .before .before .before .before .before .before .before .before .before .before .before .before .before .before .before .before .before .before .before .before .before .before .before .before .before .before .before .before .before .args .trip .goal) ((c .before .before .before .before .before .before .before .before .before .before .before .before .before .before .before .before .before .before .before .before .before .before .before .before .before .before .before .before .before .before .before .before .before .before .args .trip .horizon + 1) * (c .before .before .before .before .before .before .before .before .before .before .before .before .before .before .before .before .before .before .before .before .before .before .before .before .before .before .before .before .before .before .before .before .before .before .args .grid .width * c .before .before .before .before .before .before .before .before .before .before .before .before .before .before .before .before .before .before .before .before .before .before .before .before .before .before .before .before .before .before .before .before .before .before .args .grid .height)) (c .before .before .before .before .before .before .before .before .before .before .before .before .before .before .before .before .before .before .before .before .before .before .before .before .before .before .before .before .before .before .before .before .before .before .args .last) (c .before .before .before .before .before .before .before .before .before .before .before .before .before .before .before .before .before .before .before .before .before .before .lay-arrival .last .1 .1 .1 .1 .1 .1 .0) (c .before .before .before .before .before .before .before .before .before .before .before .before .before .before .before .before .before .before .before .loop .layers) (c .before .before .before .before .before .before .before .before .before .before .before .before .before .before .before .before .before .before .before .loop .shuts) (c .before .before .before .before .before .before .before .before .before .before .before .before .before .before .before .before .before .before .before .loop .slate) (c .before .before .before .before .before .before .before .before .before .before .before .before .before .before .before .before .before .before .before .loop .from)) e (c .before .before .before .before .before .before .before .before .before .before .before .before .before .before .before .before .before .before .before .loop .inv))
+    (c .before .before .before .before .before .before .before .before .before .before .before .before .before .before .before .lay-shuts .last .1 .1 .1 .1 .1 .0) (c .before .before .before .before .before .before .before .before .before .before .before .before .before .lay-marks2 .last .1 .1 .1 .1 .0) (c .before .before .before .before .before .before .before .fill-layer .last .1 .1 .1 .1 .1 .1 .1 .0) (c .before .before .before .before .before .before .before .fill-layer .last .1 .1 .1 .1 .1 .1 .1 .1 .0) (c .before .before .rest-end .last .1 .1 .1 .1 .1 .1 .0) (c .before .before .rest-end .last .1 .1 .1 .1 .1 .1 .1 .0)
+    (c .before .before .before .before .before .before .before .before .before .before .before .before .before .before .before .lay-shuts .ensures) (c .before .before .before .before .before .before .before .before .before .before .before .before .before .lay-marks2 .ensures) (c .before .before .before .before .before .before .before .fill-layer .ensures) (c .before .before .rest-end .ensures)
 
 same-length : tie.Need-same-length Inv-loop μ-loop
-same-length c = search needs
+same-length c = let l = c .before .loop .inv .long in omega (arith, c .before .before .before .before .lay-arrival .ensures .layer .long, c .before .before .before .before .before .before .before .before .before .before .lay-marks .ensures .long)
 
 returns : tie.Need-returns Inv-loop μ-loop
-returns c = let e : c .before .loop .t ≡ 0 = omega arith in subst (λ t. MadeFrom (lentHall (c .before .before .before .before .before .args .width) (c .before .before .before .before .before .args .height) (c .before .before .before .before .before .args .hall .now)) (c .before .before .before .before .before .args .goal) (c .before .before .before .before .before .args .h) t (c .before .before .before .before .before .args .layers .now) (c .before .loop .layers)) e (c .before .loop .inv .1)
+returns c = let b = pass-bounds (c .before .before .before .before .before .before .before .before .before .before .before .before .before .before .before .before .args .grid) (c .before .before .before .before .before .before .before .before .before .before .before .before .before .before .before .before .args .trip) (c .before .before .before .before .before .before .before .before .before .before .before .before .before .before .before .before .args .last) (c .before .before .before .before .before .before .before .before .before .before .before .before .before .before .before .before .args .layers .now) (c .before .before .before .before .before .before .before .before .before .before .before .before .before .before .before .before .pre .0) (c .before .before .before .before .before .before .before .before .before .before .before .before .before .before .before .before .args .last) (omega arith) in passing-ends (c .before .before .before .before .before .before .before .before .before .before .before .before .before .before .before .before .args .grid) (c .before .before .before .before .before .before .before .before .before .before .before .before .before .before .before .before .args .floor .now) (c .before .before .before .before .before .before .before .before .before .before .before .before .before .before .before .before .args .moves) (c .before .before .before .before .before .before .before .before .before .before .before .before .before .before .before .before .args .crossing) (c .before .before .before .before .before .before .before .before .before .before .before .before .before .before .before .before .args .trip .goal) ((c .before .before .before .before .before .before .before .before .before .before .before .before .before .before .before .before .args .trip .horizon + 1) * (c .before .before .before .before .before .before .before .before .before .before .before .before .before .before .before .before .args .grid .width * c .before .before .before .before .before .before .before .before .before .before .before .before .before .before .before .before .args .grid .height)) (c .before .before .before .before .before .before .before .before .before .before .before .before .before .before .before .before .args .last) (c .before .before .before .before .before .before .before .before .before .before .before .before .before .before .before .before .args .layers .now) (c .before .before .before .before .before .before .before .before .before .before .lay-marks .last .1 .1 .1 .1 .0) (c .before .before .before .before .lay-arrival .last .1 .1 .1 .1 .1 .1 .0) (c .before .before .before .before .lay-arrival .last .1 .1 .1 .1 .1 .0) _ (c .before .before .before .before .before .before .before .arrives .result) (c .before .before .before .before .before .before .before .before .before .before .lay-marks .ensures) refl (c .before .before .before .before .before .before .before .arrives .ensures) (c .before .before .before .before .lay-arrival .ensures) (c .before .before .before .before .before .before .before .before .before .before .before .before .before .before .before .before .pre .0 .inside) (omega (arith, b .layer, next-layer (c .before .before .before .before .before .before .before .before .before .before .before .before .before .before .before .before .args .last) (c .before .before .before .before .before .before .before .before .before .before .before .before .before .before .before .before .args .grid .width * c .before .before .before .before .before .before .before .before .before .before .before .before .before .before .before .before .args .grid .height))) (c .before .loop .layers) (c .before .loop .shuts) (c .before .loop .slate) (c .before .loop .from) (c .before .loop .t) (c .before .loop .inv) (omega (arith, c .loop-test .left))
 
 pub fill-back-spec : {M : Type 1} → statement M
 fill-back-spec =
@@ -49,11 +94,24 @@ fill-back-spec =
     (tie.spec
     Inv-loop
     μ-loop
+    mul-size
+    add-plane
+    mul-plane
+    mul-first
+    lay-marks-requires
+    add-shut
+    array-read-shut
+    arrives-requires
+    lay-arrival-requires
     loop-holds
     sub-t
-    mul-fill-layer
-    mul-fill-layer-2
+    mul-base
+    add-lay-shuts
+    lay-shuts-requires
+    lay-marks-requires-2
     fill-layer-requires
+    sub-from
+    rest-end-requires
     loop-less
     loop-again
     same-length

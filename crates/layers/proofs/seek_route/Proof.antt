@@ -1,46 +1,61 @@
--- `layers::seek_route` meets its contract: marked layers are filled, and the level at the start tells the cost. Assumes nothing.
-use borrow.Author.Needs.{needs}
+-- Marked layers, filled twice, tell the best route. Assumes nothing.
 use native.Mathlib.Omega.{arith}
+use Prim.Native.Nat.{_+_, _*_}
+use mathlib.Core.Path.{refl}
+use mathlib.Core.Bool.{false}
+use lib.ListN.{getD}
 use Rattle.marks.specs.Marks.{boundBy}
-use Rattle.layers.specs.Fill.{lentHall}
-use Rattle.layers.proofs.SpanLaws.{height-some}
-use Rattle.layers.proofs.SeekLaws.{sought-none, sought-cost}
+use Rattle.shuts.specs.Post.{lentHall}
+use Rattle.layers.proofs.SeekLaws.{no-crossing, crossing-kept, sought-none, sought-early, sought-cost}
+use borrow.Author.Needs.{needs}
 use Rattle.layers.proofs.seek_route.Statement.{statement}
 use Rattle.layers.proofs.seek_route.Tie as tie
 
 mark-all-requires : tie.Need-mark-all-requires
 mark-all-requires c κs = search needs
 
-fill-requires : tie.Need-fill-requires
-fill-requires c κs = let some = height-some (c .before .before .before .before .before .before .before .before .args .width) (c .before .before .before .before .before .before .before .before .args .height) (c .before .before .before .before .before .before .before .before .args .start) (c .before .before .before .before .before .before .before .before .pre .0 .1) in let marked = c .before .before .before .mark-all .ensures .kept .long in let room = c .before .before .before .before .before .before .before .before .pre .0 .0 in omega (arith, room .some, room .wide, room .high, room .late, room .room)
+lay-floor-requires : tie.Need-lay-floor-requires
+lay-floor-requires c κs = search needs
 
-level-at-requires : tie.Need-level-at-requires
-level-at-requires c κs = search needs
+fill-back-requires : tie.Need-fill-back-requires
+fill-back-requires c κs = (record { some = c .before .before .before .before .before .before .before .before .before .before .before .pre .0 .0 .some; wide = c .before .before .before .before .before .before .before .before .before .before .before .pre .0 .0 .wide; high = c .before .before .before .before .before .before .before .before .before .before .before .pre .0 .0 .high; late = c .before .before .before .before .before .before .before .before .before .before .before .pre .0 .1 .late; within = omega arith; inside = c .before .before .before .before .before .before .before .before .before .before .before .pre .1 .1; room = omega (arith, c .before .before .before .before .before .before .before .before .before .before .before .pre .0 .1 .room, c .before .before .before .before .before .before .mark-all .ensures .0 .kept .long) }, no-crossing (lentHall (c .before .before .before .before .before .before .before .before .before .before .before .args .grid) (c .before .before .before .before .before .before .before .before .before .before .before .args .hall .now)) (boundBy (c .before .before .before .before .before .before .before .before .before .before .before .args .bound .capacity) (c .before .before .before .before .before .before .before .before .before .before .before .args .columns .now) (c .before .before .before .before .before .before .before .before .before .before .before .args .bound .node) (c .before .before .before .before .before .before .before .before .before .before .before .args .bound .carrier) (c .before .before .before .before .before .before .before .before .before .before .before .args .bound .bar)) (c .before .before .before .before .before .before .before .before .before .before .before .args .trip .horizon) (c .before .before .before .before .before .before .mark-all .result) (c .before .before .before .before .before .before .mark-all .last .0) (c .before .before .before .before .before .before .mark-all .ensures .1) (c .before .before .before .before .before .before .mark-all .ensures .0 .marked))
+
+slice-read-end : tie.Need-slice-read-end
+slice-read-end c = search needs
 
 same-length : tie.Need-same-length
 same-length c = search needs
 
 returns : tie.Need-returns
-returns c = sought-none (lentHall (c .before .before .before .before .before .before .before .before .before .before .before .before .before .before .args .width) (c .before .before .before .before .before .before .before .before .before .before .before .before .before .before .args .height) (c .before .before .before .before .before .before .before .before .before .before .before .before .before .before .args .hall .now)) (boundBy (c .before .before .before .before .before .before .before .before .before .before .before .before .before .before .args .capacity) (c .before .before .before .before .before .before .before .before .before .before .before .before .before .before .args .columns .now) (c .before .before .before .before .before .before .before .before .before .before .before .before .before .before .args .node) (c .before .before .before .before .before .before .before .before .before .before .before .before .before .before .args .carrier) (c .before .before .before .before .before .before .before .before .before .before .before .before .before .before .args .bar)) (c .before .before .before .before .before .before .before .before .before .before .before .before .before .before .args .start) (c .before .before .before .before .before .before .before .before .before .before .before .before .before .before .args .goal) (c .before .before .before .before .before .before .before .before .before .before .before .before .before .before .args .h) (c .before .before .before .before .before .before .before .before .before .before .before .before .before .before .args .layers .now) (c .before .before .before .before .before .before .before .before .before .mark-all .last .0) (c .before .before .before .before .before .fill .last .1 .1 .1 .1 .1 .0) (c .before .before .before .before .before .before .before .before .before .before .before .before .before .before .pre .0 .0 .late) (c .before .before .before .before .before .before .before .before .before .before .before .before .before .before .pre .0 .1) (c .before .before .before .before .before .before .before .before .before .mark-all .ensures) (c .before .before .before .before .before .fill .ensures) (c .before .level-at .result) (c .before .level-at .ensures) (c .if1 .taken)
+returns c = sought-none (lentHall (c .before .before .before .before .before .before .before .before .before .before .before .before .before .before .before .before .args .grid) (c .before .before .before .before .before .before .before .before .before .before .before .before .before .before .before .before .args .hall .now)) (boundBy (c .before .before .before .before .before .before .before .before .before .before .before .before .before .before .before .before .args .bound .capacity) (c .before .before .before .before .before .before .before .before .before .before .before .before .before .before .before .before .args .columns .now) (c .before .before .before .before .before .before .before .before .before .before .before .before .before .before .before .before .args .bound .node) (c .before .before .before .before .before .before .before .before .before .before .before .before .before .before .before .before .args .bound .carrier) (c .before .before .before .before .before .before .before .before .before .before .before .before .before .before .before .before .args .bound .bar)) (c .before .before .before .before .before .before .before .before .before .before .before .before .before .before .before .before .args .trip .start) (c .before .before .before .before .before .before .before .before .before .before .before .before .before .before .before .before .args .trip .goal) (c .before .before .before .before .before .before .before .before .before .before .before .before .before .before .before .before .args .trip .horizon) (c .before .before .before .before .before .before .before .before .before .before .before .before .before .before .before .before .args .layers .now) (c .before .before .before .before .before .before .before .before .before .before .before .mark-all .last .0) (c .before .before .before .before .fill-back .last .1 .1 .1 .1 .1 .1 .0) (c .before .before .before .before .before .before .before .before .before .before .before .before .before .before .before .before .pre .0 .1 .late) (c .before .before .before .before .before .before .before .before .before .before .before .before .before .before .before .before .pre .1 .0) (c .before .before .before .before .before .before .before .before .before .before .before .mark-all .ensures .0) (c .before .before .before .before .fill-back .ensures (c .before .before .before .before .before .before .before .before .before .before .before .before .before .before .before .before .args .hall .now) (c .before .before .before .before .before .before .before .lay-floor .ensures .floor)) (getD (c .before .before .before .before .fill-back .last .1 .1 .1 .1 .1 .1 .0) (c .before .before .before .before .before .before .before .before .before .before .before .before .before .before .before .before .args .trip .start) 0) refl (c .if1 .taken)
+
+cast-fill-back : tie.Need-cast-fill-back
+cast-fill-back c = record { fits = omega (arith, c .before .before .slice-known4 .given (c .before .before .before .before .before .before .before .before .before .before .before .before .before .before .before .before .before .args .trip .start) .fits) }
+
+fill-back-requires-2 : tie.Need-fill-back-requires-2
+fill-back-requires-2 c κs = (record { some = c .before .before .before .before .before .before .before .before .before .before .before .before .before .before .before .before .before .before .pre .0 .0 .some; wide = c .before .before .before .before .before .before .before .before .before .before .before .before .before .before .before .before .before .before .pre .0 .0 .wide; high = c .before .before .before .before .before .before .before .before .before .before .before .before .before .before .before .before .before .before .pre .0 .0 .high; late = c .before .before .before .before .before .before .before .before .before .before .before .before .before .before .before .before .before .before .pre .0 .1 .late; within = sought-early (lentHall (c .before .before .before .before .before .before .before .before .before .before .before .before .before .before .before .before .before .before .args .grid) (c .before .before .before .before .before .before .before .before .before .before .before .before .before .before .before .before .before .before .args .hall .now)) (boundBy (c .before .before .before .before .before .before .before .before .before .before .before .before .before .before .before .before .before .before .args .bound .capacity) (c .before .before .before .before .before .before .before .before .before .before .before .before .before .before .before .before .before .before .args .columns .now) (c .before .before .before .before .before .before .before .before .before .before .before .before .before .before .before .before .before .before .args .bound .node) (c .before .before .before .before .before .before .before .before .before .before .before .before .before .before .before .before .before .before .args .bound .carrier) (c .before .before .before .before .before .before .before .before .before .before .before .before .before .before .before .before .before .before .args .bound .bar)) (c .before .before .before .before .before .before .before .before .before .before .before .before .before .before .before .before .before .before .args .trip .start) (c .before .before .before .before .before .before .before .before .before .before .before .before .before .before .before .before .before .before .args .trip .goal) (c .before .before .before .before .before .before .before .before .before .before .before .before .before .before .before .before .before .before .args .trip .horizon) (c .before .before .before .before .before .before .before .before .before .before .before .before .before .before .before .before .before .before .args .layers .now) (c .before .before .before .before .before .before .before .before .before .before .before .before .before .mark-all .last .0) (c .before .before .before .before .before .before .fill-back .last .1 .1 .1 .1 .1 .1 .0) (c .before .before .before .before .before .before .before .before .before .before .before .before .before .before .before .before .before .before .pre .0 .1 .late) (c .before .before .before .before .before .before .before .before .before .before .before .before .before .before .before .before .before .before .pre .1 .0) (c .before .before .before .before .before .before .before .before .before .before .before .before .before .mark-all .ensures .0) (c .before .before .before .before .before .before .fill-back .ensures (c .before .before .before .before .before .before .before .before .before .before .before .before .before .before .before .before .before .before .args .hall .now) (c .before .before .before .before .before .before .before .before .before .lay-floor .ensures .floor)) (getD (c .before .before .before .before .before .before .fill-back .last .1 .1 .1 .1 .1 .1 .0) (c .before .before .before .before .before .before .before .before .before .before .before .before .before .before .before .before .before .before .args .trip .start) 0) refl (c .before .before .if1 .left); inside = c .before .before .before .before .before .before .before .before .before .before .before .before .before .before .before .before .before .before .pre .1 .1; room = omega (arith, c .before .before .before .before .before .before .before .before .before .before .before .before .before .before .before .before .before .before .pre .0 .1 .room, c .before .before .before .before .before .before .before .before .before .before .before .before .before .mark-all .ensures .0 .kept .long, c .before .before .before .before .before .before .fill-back .ensures (c .before .before .before .before .before .before .before .before .before .before .before .before .before .before .before .before .before .before .args .hall .now) (c .before .before .before .before .before .before .before .before .before .lay-floor .ensures .floor) .long) }, crossing-kept (lentHall (c .before .before .before .before .before .before .before .before .before .before .before .before .before .before .before .before .before .before .args .grid) (c .before .before .before .before .before .before .before .before .before .before .before .before .before .before .before .before .before .before .args .hall .now)) false (c .before .before .before .before .before .before .before .before .before .before .before .before .before .mark-all .result) (c .before .before .before .before .before .before .before .before .before .before .before .before .before .before .before .before .before .before .args .trip .goal) ((c .before .before .before .before .before .before .before .before .before .before .before .before .before .before .before .before .before .before .args .trip .horizon + 1) * (c .before .before .before .before .before .before .before .before .before .before .before .before .before .before .before .before .before .before .args .grid .width * c .before .before .before .before .before .before .before .before .before .before .before .before .before .before .before .before .before .before .args .grid .height)) (c .before .before .before .before .before .before .before .before .before .before .before .before .before .before .before .before .before .before .args .trip .horizon) (c .before .before .before .before .before .before .before .before .before .before .before .before .before .before .before .before .before .before .args .trip .horizon) (c .before .before .before .before .before .before .before .before .before .before .before .before .before .mark-all .last .0) (c .before .before .before .before .before .before .fill-back .last .1 .1 .1 .1 .1 .1 .0) (omega arith) (c .before .before .before .before .before .before .fill-back .ensures (c .before .before .before .before .before .before .before .before .before .before .before .before .before .before .before .before .before .before .args .hall .now) (c .before .before .before .before .before .before .before .before .before .lay-floor .ensures .floor)) (no-crossing (lentHall (c .before .before .before .before .before .before .before .before .before .before .before .before .before .before .before .before .before .before .args .grid) (c .before .before .before .before .before .before .before .before .before .before .before .before .before .before .before .before .before .before .args .hall .now)) (boundBy (c .before .before .before .before .before .before .before .before .before .before .before .before .before .before .before .before .before .before .args .bound .capacity) (c .before .before .before .before .before .before .before .before .before .before .before .before .before .before .before .before .before .before .args .columns .now) (c .before .before .before .before .before .before .before .before .before .before .before .before .before .before .before .before .before .before .args .bound .node) (c .before .before .before .before .before .before .before .before .before .before .before .before .before .before .before .before .before .before .args .bound .carrier) (c .before .before .before .before .before .before .before .before .before .before .before .before .before .before .before .before .before .before .args .bound .bar)) (c .before .before .before .before .before .before .before .before .before .before .before .before .before .before .before .before .before .before .args .trip .horizon) (c .before .before .before .before .before .before .before .before .before .before .before .before .before .mark-all .result) (c .before .before .before .before .before .before .before .before .before .before .before .before .before .mark-all .last .0) (c .before .before .before .before .before .before .before .before .before .before .before .before .before .mark-all .ensures .1) (c .before .before .before .before .before .before .before .before .before .before .before .before .before .mark-all .ensures .0 .marked)))
 
 cast-t22 : tie.Need-cast-t22
-cast-t22 c = omega (arith, c .before .level-at .ensures)
+cast-t22 c = record { fits = omega (arith, c .before .before .before .before .before .before .slice-known4 .given (c .before .before .before .before .before .before .before .before .before .before .before .before .before .before .before .before .before .before .before .before .before .args .trip .start) .fits) }
 
 same-length-2 : tie.Need-same-length-2
 same-length-2 c = search needs
 
 returns-2 : tie.Need-returns-2
-returns-2 c = sought-cost (lentHall (c .before .before .before .before .before .before .before .before .before .before .before .before .before .before .args .width) (c .before .before .before .before .before .before .before .before .before .before .before .before .before .before .args .height) (c .before .before .before .before .before .before .before .before .before .before .before .before .before .before .args .hall .now)) (boundBy (c .before .before .before .before .before .before .before .before .before .before .before .before .before .before .args .capacity) (c .before .before .before .before .before .before .before .before .before .before .before .before .before .before .args .columns .now) (c .before .before .before .before .before .before .before .before .before .before .before .before .before .before .args .node) (c .before .before .before .before .before .before .before .before .before .before .before .before .before .before .args .carrier) (c .before .before .before .before .before .before .before .before .before .before .before .before .before .before .args .bar)) (c .before .before .before .before .before .before .before .before .before .before .before .before .before .before .args .start) (c .before .before .before .before .before .before .before .before .before .before .before .before .before .before .args .goal) (c .before .before .before .before .before .before .before .before .before .before .before .before .before .before .args .h) (c .before .before .before .before .before .before .before .before .before .before .before .before .before .before .args .layers .now) (c .before .before .before .before .before .before .before .before .before .mark-all .last .0) (c .before .before .before .before .before .fill .last .1 .1 .1 .1 .1 .0) (c .before .before .before .before .before .before .before .before .before .before .before .before .before .before .pre .0 .0 .late) (c .before .before .before .before .before .before .before .before .before .before .before .before .before .before .pre .0 .1) (c .before .before .before .before .before .before .before .before .before .mark-all .ensures) (c .before .before .before .before .before .fill .ensures) (c .before .level-at .result) (c .before .level-at .ensures) (c .if1 .left)
+returns-2 c = sought-cost (lentHall (c .before .before .before .before .before .before .before .before .before .before .before .before .before .before .before .before .before .before .before .before .before .args .grid) (c .before .before .before .before .before .before .before .before .before .before .before .before .before .before .before .before .before .before .before .before .before .args .hall .now)) (boundBy (c .before .before .before .before .before .before .before .before .before .before .before .before .before .before .before .before .before .before .before .before .before .args .bound .capacity) (c .before .before .before .before .before .before .before .before .before .before .before .before .before .before .before .before .before .before .before .before .before .args .columns .now) (c .before .before .before .before .before .before .before .before .before .before .before .before .before .before .before .before .before .before .before .before .before .args .bound .node) (c .before .before .before .before .before .before .before .before .before .before .before .before .before .before .before .before .before .before .before .before .before .args .bound .carrier) (c .before .before .before .before .before .before .before .before .before .before .before .before .before .before .before .before .before .before .before .before .before .args .bound .bar)) (c .before .before .before .before .before .before .before .before .before .before .before .before .before .before .before .before .before .before .before .before .before .args .trip .start) (c .before .before .before .before .before .before .before .before .before .before .before .before .before .before .before .before .before .before .before .before .before .args .trip .goal) (c .before .before .before .before .before .before .before .before .before .before .before .before .before .before .before .before .before .before .before .before .before .args .trip .horizon) (c .before .before .before .before .before .before .before .before .before .before .before .before .before .before .before .before .before .before .before .before .before .args .layers .now) (c .before .before .before .before .before .before .before .before .before .before .before .before .before .before .before .before .mark-all .last .0) (c .before .before .before .before .before .before .before .before .before .fill-back .last .1 .1 .1 .1 .1 .1 .0) (c .before .before .before .before .before .before .before .before .before .before .before .before .before .before .before .before .before .before .before .before .before .pre .0 .1 .late) (c .before .before .before .before .before .before .before .before .before .before .before .before .before .before .before .before .before .before .before .before .before .pre .1 .0) (c .before .before .before .before .before .before .before .before .before .before .before .before .before .before .before .before .mark-all .ensures .0) (c .before .before .before .before .before .before .before .before .before .fill-back .ensures (c .before .before .before .before .before .before .before .before .before .before .before .before .before .before .before .before .before .before .before .before .before .args .hall .now) (c .before .before .before .before .before .before .before .before .before .before .before .before .lay-floor .ensures .floor)) (getD (c .before .before .before .before .before .before .before .before .before .fill-back .last .1 .1 .1 .1 .1 .1 .0) (c .before .before .before .before .before .before .before .before .before .before .before .before .before .before .before .before .before .before .before .before .before .args .trip .start) 0) refl (c .before .before .fill-back2 .last .1 .1 .1 .1 .1 .1 .0) (c .before .before .before .before .before .if1 .left) (c .before .before .fill-back2 .ensures (c .before .before .before .before .before .before .before .before .before .before .before .before .before .before .before .before .before .before .before .before .before .args .hall .now) (c .before .before .before .before .before .before .before .before .before .before .before .before .lay-floor .ensures .floor))
 
 pub seek-route-spec : {M : Type 1} → statement M
 seek-route-spec =
     tie.close
     (tie.spec
     mark-all-requires
-    fill-requires
-    level-at-requires
+    lay-floor-requires
+    fill-back-requires
+    slice-read-end
     same-length
     returns
+    cast-fill-back
+    fill-back-requires-2
     cast-t22
     same-length-2
     returns-2)

@@ -1,6 +1,5 @@
 -- `marks::mark_bar` meets its contract, by the bar's cases. Assumes nothing.
-use Rattle.routes.specs.declared.Bar.the-variants.{Stay, Cross}
-use Rattle.marks.proofs.More.{more-free, more-bar}
+use Rattle.marks.proofs.More.{told-free, told-stay, told-cross}
 use borrow.Author.Needs.{needs}
 use Rattle.marks.proofs.mark_bar.Statement.{statement}
 use Rattle.marks.proofs.mark_bar.Tie as tie
@@ -23,7 +22,7 @@ mark-cross-requires c κs = search needs
 returns : tie.Need-returns
 returns c =
     let a = c .before .before .before .args in
-    more-free (a .width) (a .height) (a .h) (a .bar) (a .layers .now) (c .enum-told .given .1)
+    told-free (a .grid .width) (a .grid .height) (a .h) (a .bar) (a .layers .now) (c .enum-told .given .1)
 
 same-length : tie.Need-same-length
 same-length c = search needs
@@ -33,7 +32,7 @@ returns-2 c =
     let a = c .before .before .before .before .before .before .before .before .args in
     let mark-stay = c .before .before .mark-stay in
     let g = c .before .before .before .before .before .bar .given in
-    more-bar (a .width) (a .height) (a .h) (a .bar) (Stay (g .0 .0) (g .0 .1 .0) (g .0 .1 .1 .0)) (a .layers .now) (mark-stay .last .0) (g .1) (mark-stay .ensures)
+    told-stay (a .grid .width) (a .grid .height) (a .h) (a .bar) (g .0 .0) (g .0 .1 .0) (g .0 .1 .1 .0) (a .layers .now) (mark-stay .last .0) (g .1) (mark-stay .ensures)
 
 same-length-2 : tie.Need-same-length-2
 same-length-2 c = search needs
@@ -43,7 +42,7 @@ returns-3 c =
     let a = c .before .before .before .before .before .before .before .before .args in
     let mark-cross = c .before .before .mark-cross in
     let g = c .before .before .before .before .before .bar2 .given in
-    more-bar (a .width) (a .height) (a .h) (a .bar) (Cross (g .0 .0) (g .0 .1 .0) (g .0 .1 .1 .0)) (a .layers .now) (mark-cross .last .0) (g .1) (mark-cross .ensures)
+    told-cross (a .grid .width) (a .grid .height) (a .h) (a .bar) (g .0 .0) (g .0 .1 .0) (g .0 .1 .1 .0) (a .layers .now) (mark-cross .last .0) (g .1) (mark-cross .ensures)
 
 pub mark-bar-spec : {M : Type 1} → statement M
 mark-bar-spec =

@@ -1,4 +1,5 @@
--- `marks::mark_own` meets its contract: a record that binds another carrier has nothing to mark, and of another its bar is marked. Assumes nothing.
+-- `marks::mark_own` meets its contract: a record that binds another carrier has nothing to mark, and of one that
+-- binds this one its bar is marked. Assumes nothing.
 use mathlib.Core.Path.{sym, _∙_}
 use Rattle.marks.proofs.More.{own-other, own-marked}
 use borrow.Author.Needs.{needs}
@@ -11,7 +12,7 @@ entry-at-requires c κs = search needs
 returns : tie.Need-returns
 returns c =
     let a = c .before .before .before .before .args in
-    own-other (a .width) (a .height) (a .h) (a .capacity) (a .columns .now) (a .node) (a .carrier) (a .layers .now) (λ e. c .if1 .taken (c .before .entry-at .ensures ∙ e))
+    own-other (a .grid .width) (a .grid .height) (a .h) (a .capacity) (a .columns .now) (a .node) (a .carrier) (a .layers .now) (λ e. c .if1 .taken (c .before .entry-at .ensures ∙ e))
 
 bar-at-requires : tie.Need-bar-at-requires
 bar-at-requires c κs = search needs
@@ -27,7 +28,7 @@ returns-2 c =
     let a = c .before .before .before .before .before .before .before .before .before .args in
     let bar-at = c .before .before .before .before .bar-at in
     let mark-bar = c .before .before .mark-bar in
-    own-marked (a .width) (a .height) (a .h) (a .capacity) (a .columns .now) (a .node) (a .carrier) (bar-at .result) (a .layers .now) (mark-bar .last .0) (sym (c .before .before .before .before .before .before .entry-at .ensures) ∙ c .before .before .before .before .before .if1 .left) (bar-at .ensures) (mark-bar .ensures)
+    own-marked (a .grid .width) (a .grid .height) (a .h) (a .capacity) (a .columns .now) (a .node) (a .carrier) (bar-at .result) (a .layers .now) (mark-bar .last .0) (mark-bar .result) (sym (c .before .before .before .before .before .before .entry-at .ensures) ∙ c .before .before .before .before .before .if1 .left) (bar-at .ensures) (mark-bar .ensures)
 
 pub mark-own-spec : {M : Type 1} → statement M
 mark-own-spec =

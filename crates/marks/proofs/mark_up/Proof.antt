@@ -11,52 +11,59 @@ use Rattle.marks.proofs.mark_up.Statement.{statement}
 use Rattle.marks.proofs.mark_up.Tie as tie
 
 abbrev Inv-loop : tie.InvT-loop
-Inv-loop layers₀ width height h columns capacity node carrier at₀ layers at = Falls capacity columns at × (length layers ≡ length layers₀) × Left width height h (barsFor carrier (chainOf capacity columns node)) (barsFor carrier (chainOf capacity columns at)) layers₀ layers
+Inv-loop layers₀ grid h columns capacity node carrier crossing₀ at₀ layers crossing at = Falls capacity columns at × (length layers ≡ length layers₀) × Left (grid .width) (grid .height) h (barsFor carrier (chainOf capacity columns node)) (barsFor carrier (chainOf capacity columns at)) layers₀ layers crossing
 
 abbrev μ-loop : tie.MeasureT-loop
-μ-loop layers₀ width height h columns capacity node carrier at₀ layers at = at
+μ-loop layers₀ grid h columns capacity node carrier crossing₀ at₀ layers crossing at = at
 
 loop-holds : tie.Need-loop-holds Inv-loop μ-loop
 loop-holds c =
     let a = c .before .before .args in
-    (c .before .before .pre .1, refl, all-left (a .width) (a .height) (a .h) (barsFor (a .carrier) (chainOf (a .capacity) (a .columns .now) (a .node))) (a .layers .now))
+    (c .before .before .pre .1, refl, all-left (a .grid .width) (a .grid .height) (a .h) (barsFor (a .carrier) (chainOf (a .capacity) (a .columns .now) (a .node))) (a .layers .now))
 
 mark-own-requires : tie.Need-mark-own-requires Inv-loop μ-loop
 mark-own-requires c κs =
     let a = c .before .before .before .before .before .args in
     let l = c .before .before .loop in
-    (still-layered (a .width) (a .height) (a .h) (a .layers .now) (l .layers) (l .inv .1) (c .before .before .before .before .before .pre .0), l .inv .0)
+    (still-layered (a .grid .width) (a .grid .height) (a .h) (a .layers .now) (l .layers) (l .inv .1) (c .before .before .before .before .before .pre .0), l .inv .0)
+
+either-requires : tie.Need-either-requires Inv-loop μ-loop
+either-requires c κs = tt
 
 bound-above-requires : tie.Need-bound-above-requires Inv-loop μ-loop
-bound-above-requires c κs =
-    (c .before .before .before .before .before .loop .inv .0, omega (arith, c .before .before .before .before .loop-test .taken))
+bound-above-requires c κs = (c .before .before .before .before .before .before .loop .inv .0, omega (arith, c .before .before .before .before .before .loop-test .taken))
 
 loop-less : tie.Need-loop-less Inv-loop μ-loop
 loop-less c = c .bound-above .ensures .less
 
 loop-again : tie.Need-loop-again Inv-loop μ-loop
 loop-again c =
-    let a = c .before .before .before .before .before .before .before .before .before .args in
-    let l = c .before .before .before .before .before .before .loop in
-    let own = c .before .before .before .mark-own in
+    let a = c .before .before .before .before .before .before .before .before .before .before .args in
+    let l = c .before .before .before .before .before .before .before .loop in
+    let own = c .before .before .before .before .mark-own in
     let bound = c .bound-above in
-    (falls-above (a .capacity) (a .columns .now) (l .at) (bound .result) (bound .ensures .less) (l .inv .0), own .ensures .kept .long ∙ l .inv .1, own-then (a .width) (a .height) (a .h) (a .capacity) (a .columns .now) (l .at) (a .carrier) (barsFor (a .carrier) (chainOf (a .capacity) (a .columns .now) (a .node))) (bound .result) (a .layers .now) (l .layers) (own .last .0) (l .inv .2) (own .ensures) (bound .ensures))
+    let either = c .before .either in
+    (falls-above (a .capacity) (a .columns .now) (l .at) (bound .result) (bound .ensures .less) (l .inv .0), own .ensures .0 .kept .long ∙ l .inv .1, own-then (a .grid .width) (a .grid .height) (a .h) (a .capacity) (a .columns .now) (l .at) (a .carrier) (barsFor (a .carrier) (chainOf (a .capacity) (a .columns .now) (a .node))) (bound .result) (a .layers .now) (l .layers) (own .last .0) (l .crossing) (own .result) (either .result) (l .inv .2) (own .ensures) (bound .ensures) (either .ensures))
 
 mark-own-requires-2 : tie.Need-mark-own-requires-2 Inv-loop μ-loop
 mark-own-requires-2 c κs =
     let a = c .before .before .before .before .before .args in
     let l = c .before .before .loop in
-    (still-layered (a .width) (a .height) (a .h) (a .layers .now) (l .layers) (l .inv .1) (c .before .before .before .before .before .pre .0), l .inv .0)
+    (still-layered (a .grid .width) (a .grid .height) (a .h) (a .layers .now) (l .layers) (l .inv .1) (c .before .before .before .before .before .pre .0), l .inv .0)
+
+either-requires-2 : tie.Need-either-requires-2 Inv-loop μ-loop
+either-requires-2 c κs = tt
 
 same-length : tie.Need-same-length Inv-loop μ-loop
-same-length c = c .before .before .mark-own2 .ensures .kept .long ∙ c .before .before .before .before .before .loop .inv .1
+same-length c = c .before .before .before .mark-own2 .ensures .0 .kept .long ∙ c .before .before .before .before .before .before .loop .inv .1
 
 returns : tie.Need-returns Inv-loop μ-loop
 returns c =
-    let a = c .before .before .before .before .before .before .before .before .args in
-    let l = c .before .before .before .before .before .loop in
-    let own = c .before .before .mark-own2 in
-    root-last (a .width) (a .height) (a .h) (a .capacity) (a .columns .now) (l .at) (a .carrier) (barsFor (a .carrier) (chainOf (a .capacity) (a .columns .now) (a .node))) (a .layers .now) (l .layers) (own .last .0) (l .inv .2) (c .before .before .before .before .loop-test .left) (own .ensures)
+    let a = c .before .before .before .before .before .before .before .before .before .args in
+    let l = c .before .before .before .before .before .before .loop in
+    let own = c .before .before .before .mark-own2 in
+    let either = c .either2 in
+    root-last (a .grid .width) (a .grid .height) (a .h) (a .capacity) (a .columns .now) (l .at) (a .carrier) (barsFor (a .carrier) (chainOf (a .capacity) (a .columns .now) (a .node))) (a .layers .now) (l .layers) (own .last .0) (l .crossing) (own .result) (either .result) (l .inv .2) (c .before .before .before .before .before .loop-test .left) (own .ensures) (either .ensures)
 
 pub mark-up-spec : {M : Type 1} → statement M
 mark-up-spec =
@@ -66,9 +73,11 @@ mark-up-spec =
     μ-loop
     loop-holds
     mark-own-requires
+    either-requires
     bound-above-requires
     loop-less
     loop-again
     mark-own-requires-2
+    either-requires-2
     same-length
     returns)

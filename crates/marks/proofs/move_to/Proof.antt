@@ -9,10 +9,10 @@ use Rattle.marks.proofs.move_to.Statement.{statement}
 use Rattle.marks.proofs.move_to.Tie as tie
 
 abbrev Inv-loop : tie.InvT-loop
-Inv-loop width height from to row col m₀ m = (m ≤ 5) × ((k : ℕ) → k < m → leads width height from to k ≡ false)
+Inv-loop grid from to row col m₀ m = (m ≤ 5) × ((k : ℕ) → k < m → leads (grid .width) (grid .height) from to k ≡ false)
 
 abbrev μ-loop : tie.MeasureT-loop
-μ-loop width height from to row col m₀ m = 5 - m
+μ-loop grid from to row col m₀ m = 5 - m
 
 div-row : tie.Need-div-row Inv-loop μ-loop
 div-row c = omega arith
@@ -21,18 +21,18 @@ rem-col : tie.Need-rem-col Inv-loop μ-loop
 rem-col c = omega arith
 
 loop-holds : tie.Need-loop-holds Inv-loop μ-loop
-loop-holds c = (omega arith, passed-none (c .args .width) (c .args .height) (c .args .from) (c .args .to))
+loop-holds c = (omega arith, passed-none (c .before .before .args .grid .width) (c .before .before .args .grid .height) (c .before .before .args .from) (c .before .before .args .to))
 
 lands-on-requires : tie.Need-lands-on-requires Inv-loop μ-loop
 lands-on-requires c κs =
-    let a = c .before .before .args in
-    (c .before .before .pre .1, c .before .before .pre .2, row-small (a .from) (a .width) (c .before .before .pre .3), col-small (a .from) (a .width) (c .before .before .pre .0) (c .before .before .pre .1), c .loop-test .taken)
+    let a = c .before .before .before .before .args in
+    (c .before .before .before .before .pre .1, c .before .before .before .before .pre .2, row-small (a .from) (a .grid .width) (c .before .before .before .before .pre .3), col-small (a .from) (a .grid .width) (c .before .before .before .before .pre .0) (c .before .before .before .before .pre .1), c .loop-test .taken)
 
 returns : tie.Need-returns Inv-loop μ-loop
 returns c =
-    let a = c .before .before .before .before .args in
+    let a = c .before .before .before .before .before .before .args in
     let l = c .before .before .before .loop in
-    move-found (a .width) (a .height) (a .from) (a .to) (l .m) (c .before .lands-on .result) (c .before .before .loop-test .taken) (l .inv .1) (c .before .lands-on .ensures) (c .if1 .taken)
+    move-found (a .grid .width) (a .grid .height) (a .from) (a .to) (l .m) (c .before .lands-on .result) (c .before .before .loop-test .taken) (l .inv .1) (c .before .lands-on .ensures) (c .if1 .taken)
 
 add-m : tie.Need-add-m Inv-loop μ-loop
 add-m c = omega arith
@@ -42,15 +42,15 @@ loop-less c = omega arith
 
 loop-again : tie.Need-loop-again Inv-loop μ-loop
 loop-again c =
-    let a = c .before .before .before .before .args in
+    let a = c .before .before .before .before .before .before .args in
     let l = c .before .before .before .loop in
-    (omega arith, passed-more (a .width) (a .height) (a .from) (a .to) (l .m) (c .before .lands-on .result) (l .inv .1) (c .before .lands-on .ensures) (c .if1 .left))
+    (omega arith, passed-more (a .grid .width) (a .grid .height) (a .from) (a .to) (l .m) (c .before .lands-on .result) (l .inv .1) (c .before .lands-on .ensures) (c .if1 .left))
 
 returns-2 : tie.Need-returns-2 Inv-loop μ-loop
 returns-2 c =
-    let a = c .before .before .args in
+    let a = c .before .before .before .before .args in
     let l = c .before .loop in
-    move-missing (a .width) (a .height) (a .from) (a .to) (l .m) (l .inv .0) (c .loop-test .left) (l .inv .1)
+    move-missing (a .grid .width) (a .grid .height) (a .from) (a .to) (l .m) (l .inv .0) (c .loop-test .left) (l .inv .1)
 
 pub move-to-spec : {M : Type 1} → statement M
 move-to-spec =

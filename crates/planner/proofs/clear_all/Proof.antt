@@ -2,9 +2,9 @@
 use Prim.Native.Nat.{ℕ, _*_}
 use native.Mathlib.Omega.{arith}
 use mathlib.Core.Path.{ap, _∙_}
-use borrow.Author.Needs.{needs}
 use Rattle.lent.specs.Lent.{zeroed}
 use Rattle.planner.proofs.Answers.{plans-small}
+use borrow.Author.Needs.{needs}
 use Rattle.planner.proofs.clear_all.Statement.{statement}
 use Rattle.planner.proofs.clear_all.Tie as tie
 
@@ -21,25 +21,16 @@ mul-clear-bytes : tie.Need-mul-clear-bytes
 mul-clear-bytes c =
     let a = c .before .before .before .before .before .before .before .before .before .args in
     let pre = c .before .before .before .before .before .before .before .before .before .pre in
-    let stretch-of = c .stretch-of in
-    let e = stretch-of .ensures in
+    let e = c .stretch-of .ensures in
     rw e (omega (arith, plans-small (a .task .team .count) (a .task .horizon) (a .task .capacity) (pre .0 .count-most) (pre .0 .horizon-most) (pre .0 .capacity-most)))
 
 clear-bytes-requires : tie.Need-clear-bytes-requires
 clear-bytes-requires c κs =
-    let pre = c .before .before .before .before .before .before .before .before .before .pre in
-    let stretch-of = c .stretch-of in
-    let e = stretch-of .ensures in
-    rw e (pre .1 .1)
+    let e = c .stretch-of .ensures in
+    rw e (c .before .before .before .before .before .before .before .before .before .pre .1 .1)
 
-add-clear-bytes : tie.Need-add-clear-bytes
-add-clear-bytes c = search needs
-
-mul-clear-bytes-2 : tie.Need-mul-clear-bytes-2
-mul-clear-bytes-2 c = search needs
-
-mul-clear-bytes-3 : tie.Need-mul-clear-bytes-3
-mul-clear-bytes-3 c = search needs
+layers-of-requires : tie.Need-layers-of-requires
+layers-of-requires c κs = search needs
 
 clear-bytes-requires-2 : tie.Need-clear-bytes-requires-2
 clear-bytes-requires-2 c κs = search needs
@@ -55,16 +46,11 @@ same-length-3 c = search needs
 
 returns : tie.Need-returns
 returns c =
-    let a = c .before .before .before .before .before .before .before .before .before .before .before .before .before .before .before .before .before .before .args in
-    let stretch-of = c .before .before .before .before .before .before .before .before .before .stretch-of in
-    let clear-words = c .before .before .before .before .before .before .before .before .before .before .before .before .before .clear-words in
-    let clear-bytes = c .before .before .before .before .before .before .before .before .clear-bytes in
-    let clear-bytes2 = c .before .before .clear-bytes2 in
-    let size = stretch-of .ensures in
+    let a = c .before .before .before .before .before .before .before .before .before .before .before .before .before .before .before .before .before .args in
     record {
-      columns-cleared = clear-words .ensures;
-      plans-cleared = clear-bytes .ensures ∙ ap (λ (n : ℕ). zeroed (a .task .capacity * n) (a .plans .now)) size;
-      layers-cleared = clear-bytes2 .ensures;
+      columns-cleared = c .before .before .before .before .before .before .before .before .before .before .before .before .clear-words .ensures;
+      plans-cleared = c .before .before .before .before .before .before .before .clear-bytes .ensures ∙ ap (λ (n : ℕ). zeroed (a .task .capacity * n) (a .plans .now)) (c .before .before .before .before .before .before .before .before .stretch-of .ensures);
+      layers-cleared = c .before .before .clear-bytes2 .ensures ∙ ap (λ (n : ℕ). zeroed n (a .layers .now)) (c .before .before .before .layers-of .ensures);
     }
 
 pub clear-all-spec : {M : Type 1} → statement M
@@ -76,9 +62,7 @@ clear-all-spec =
     stretch-of-requires
     mul-clear-bytes
     clear-bytes-requires
-    add-clear-bytes
-    mul-clear-bytes-2
-    mul-clear-bytes-3
+    layers-of-requires
     clear-bytes-requires-2
     same-length
     same-length-2

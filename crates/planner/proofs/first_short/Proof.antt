@@ -1,8 +1,7 @@
 -- The four tests in their order; all products are small. Assumes nothing.
 use native.Mathlib.Omega.{arith}
-use borrow.Author.Needs.{needs}
-use Rattle.hall.proofs.HallCode.{area-small, layers-small}
 use Rattle.planner.proofs.Answers.{plans-small, short-columns, short-plans, short-layers, short-output, all-long}
+use borrow.Author.Needs.{needs}
 use Rattle.planner.proofs.first_short.Statement.{statement}
 use Rattle.planner.proofs.first_short.Tie as tie
 
@@ -21,8 +20,7 @@ mul-needed-2 : tie.Need-mul-needed-2
 mul-needed-2 c =
     let a = c .before .before .before .before .before .before .before .before .args in
     let pre = c .before .before .before .before .before .before .before .before .pre in
-    let stretch-of = c .before .stretch-of in
-    let e = stretch-of .ensures in
+    let e = c .before .stretch-of .ensures in
     rw e (omega (arith, plans-small (a .task .team .count) (a .task .horizon) (a .task .capacity) (pre .count-most) (pre .horizon-most) (pre .capacity-most)))
 
 returns-2 : tie.Need-returns-2
@@ -31,36 +29,29 @@ returns-2 c =
     let stretch-of = c .before .before .stretch-of in
     short-plans (a .task) (record { columns = a .columns .now; plans = a .plans .now; layers = a .layers .now; output = a .output .now }) (c .before .before .before .if1 .left) (stretch-of .result) (stretch-of .ensures) (c .if2 .taken)
 
-add-needed : tie.Need-add-needed
-add-needed c = search needs
-
-mul-needed-3 : tie.Need-mul-needed-3
-mul-needed-3 c =
-    let pre = c .before .before .before .before .before .before .before .before .before .before .before .pre in
-    omega (arith, area-small (pre .width-most) (pre .height-most))
-
-mul-needed-4 : tie.Need-mul-needed-4
-mul-needed-4 c =
-    let pre = c .before .before .before .before .before .before .before .before .before .before .before .pre in
-    omega (arith, layers-small (pre .horizon-most) (area-small (pre .width-most) (pre .height-most)))
+layers-of-requires : tie.Need-layers-of-requires
+layers-of-requires c κs = search needs
 
 returns-3 : tie.Need-returns-3
 returns-3 c =
-    let a = c .before .before .before .before .before .before .before .before .before .before .before .before .args in
-    let stretch-of = c .before .before .before .before .before .stretch-of in
-    short-layers (a .task) (record { columns = a .columns .now; plans = a .plans .now; layers = a .layers .now; output = a .output .now }) (c .before .before .before .before .before .before .if1 .left) (stretch-of .result) (stretch-of .ensures) (c .before .before .before .if2 .left) (c .if3 .taken)
+    let a = c .before .before .before .before .before .before .before .before .before .before .before .args in
+    let stretch-of = c .before .before .before .before .stretch-of in
+    let layers-of = c .before .layers-of in
+    short-layers (a .task) (record { columns = a .columns .now; plans = a .plans .now; layers = a .layers .now; output = a .output .now }) (c .before .before .before .before .before .if1 .left) (stretch-of .result) (stretch-of .ensures) (c .before .before .if2 .left) (layers-of .result) (layers-of .ensures) (c .if3 .taken)
 
 returns-4 : tie.Need-returns-4
 returns-4 c =
-    let a = c .before .before .before .before .before .before .before .before .before .before .before .before .before .args in
-    let stretch-of = c .before .before .before .before .before .before .stretch-of in
-    short-output (a .task) (record { columns = a .columns .now; plans = a .plans .now; layers = a .layers .now; output = a .output .now }) (c .before .before .before .before .before .before .before .if1 .left) (stretch-of .result) (stretch-of .ensures) (c .before .before .before .before .if2 .left) (c .before .if3 .left) (c .if4 .taken)
+    let a = c .before .before .before .before .before .before .before .before .before .before .before .before .args in
+    let stretch-of = c .before .before .before .before .before .stretch-of in
+    let layers-of = c .before .before .layers-of in
+    short-output (a .task) (record { columns = a .columns .now; plans = a .plans .now; layers = a .layers .now; output = a .output .now }) (c .before .before .before .before .before .before .if1 .left) (stretch-of .result) (stretch-of .ensures) (c .before .before .before .if2 .left) (layers-of .result) (layers-of .ensures) (c .before .if3 .left) (c .if4 .taken)
 
 returns-5 : tie.Need-returns-5
 returns-5 c =
-    let a = c .before .before .before .before .before .before .before .before .before .before .before .before .before .args in
-    let stretch-of = c .before .before .before .before .before .before .stretch-of in
-    all-long (a .task) (record { columns = a .columns .now; plans = a .plans .now; layers = a .layers .now; output = a .output .now }) (c .before .before .before .before .before .before .before .if1 .left) (stretch-of .result) (stretch-of .ensures) (c .before .before .before .before .if2 .left) (c .before .if3 .left) (c .if4 .left)
+    let a = c .before .before .before .before .before .before .before .before .before .before .before .before .args in
+    let stretch-of = c .before .before .before .before .before .stretch-of in
+    let layers-of = c .before .before .layers-of in
+    all-long (a .task) (record { columns = a .columns .now; plans = a .plans .now; layers = a .layers .now; output = a .output .now }) (c .before .before .before .before .before .before .if1 .left) (stretch-of .result) (stretch-of .ensures) (c .before .before .before .if2 .left) (layers-of .result) (layers-of .ensures) (c .before .if3 .left) (c .if4 .left)
 
 pub first-short-spec : {M : Type 1} → statement M
 first-short-spec =
@@ -71,9 +62,7 @@ first-short-spec =
     stretch-of-requires
     mul-needed-2
     returns-2
-    add-needed
-    mul-needed-3
-    mul-needed-4
+    layers-of-requires
     returns-3
     returns-4
     returns-5)

@@ -1,5 +1,4 @@
 -- `route_bench::right_floor` meets its contract: each test is one of the facts, and the last decides. Assumes nothing.
-use borrow.Author.Needs.{needs}
 use Prim.Native.Nat.{_*_}
 use native.Mathlib.Omega.{arith}
 use Rattle.hall.proofs.HallCode.{area-small}
@@ -24,20 +23,21 @@ returns-4 : tie.Need-returns-4
 unfolding Tells
 returns-4 c = λ f. omega arith
 
-mul-if5 : tie.Need-mul-if5
-mul-if5 c = let s = area-small {w = c .before .before .before .before .args .width} {h = c .before .before .before .before .args .height} (omega arith) (omega arith) in omega arith
+mul-size : tie.Need-mul-size
+mul-size c = let s = area-small {w = c .before .before .before .before .args .width} {h = c .before .before .before .before .args .height} (omega arith) (omega arith) in omega arith
 
 returns-5 : tie.Need-returns-5
 unfolding Tells
 returns-5 c = λ f. c .if5 .taken (f .bytes)
 
-mul-result : tie.Need-mul-result
-mul-result c = search needs
-
 returns-6 : tie.Need-returns-6
-returns-6 c = tells-less (RightFloor (c .before .before .before .before .before .args .hall .now) (c .before .before .before .before .before .args .width) (c .before .before .before .before .before .args .height) (c .before .before .before .before .before .args .start)) (c .before .before .before .before .before .args .start) (c .before .before .before .before .before .args .width * c .before .before .before .before .before .args .height) (λ l. record { some-wide = omega arith; wide = omega arith; some-high = omega arith; high = omega arith; bytes = omega arith; inside = l }) (λ f. f .inside)
+unfolding Tells
+returns-6 c = λ f. omega arith
+
+returns-7 : tie.Need-returns-7
+returns-7 c = tells-less (RightFloor (c .before .before .before .before .before .before .args .hall .now) (c .before .before .before .before .before .before .args .width) (c .before .before .before .before .before .before .args .height) (c .before .before .before .before .before .before .args .start) (c .before .before .before .before .before .before .args .goal)) (c .before .before .before .before .before .before .args .start) (c .before .before .before .before .before .before .args .width * c .before .before .before .before .before .before .args .height) (λ l. record { some-wide = omega arith; wide = omega arith; some-high = omega arith; high = omega arith; bytes = omega arith; inside = l; goal-inside = omega arith }) (λ f. f .inside)
 
 pub right-floor-spec : {M : Type 1} → statement M
 right-floor-spec =
     tie.close
-    (tie.spec returns returns-2 returns-3 returns-4 mul-if5 returns-5 mul-result returns-6)
+    (tie.spec returns returns-2 returns-3 returns-4 mul-size returns-5 returns-6 returns-7)

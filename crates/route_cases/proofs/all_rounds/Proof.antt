@@ -5,7 +5,7 @@ use Rattle.route_cases.proofs.all_rounds.Statement.{statement}
 use Rattle.route_cases.proofs.all_rounds.Tie as tie
 
 abbrev Inv-loop : tie.InvT-loop
-Inv-loop seen₀ i₀ seen i = (i ≤ 600) × (seen .differ ≤ i) × (seen .found ≤ i) × (seen .changed ≤ i)
+Inv-loop seen₀ i₀ seen i = (i ≤ 600) × (seen .differ ≤ i) × (seen .found ≤ i) × (seen .barred ≤ i) × (seen .crossed ≤ i) × (seen .older ≤ i)
 
 abbrev μ-loop : tie.MeasureT-loop
 μ-loop seen₀ i₀ seen i = 600 - i

@@ -1,23 +1,20 @@
--- `route_cases::cost_of` is safe and ends: each turn looks at the next of 5 steps. Assumes nothing.
+-- `route_cases::cost_of` meets its contract: the cost is no more than the steps looked at. Assumes nothing.
 use borrow.Author.Needs.{needs}
 use Prim.Native.Nat.{_-_, _≤_}
 use Rattle.route_cases.proofs.cost_of.Statement.{statement}
 use Rattle.route_cases.proofs.cost_of.Tie as tie
 
 abbrev Inv-loop : tie.InvT-loop
-Inv-loop route case cost₀ t₀ cost t = t ≤ 5
+Inv-loop route case cost₀ t₀ cost t = (cost ≤ t) × (t ≤ 6)
 
 abbrev μ-loop : tie.MeasureT-loop
-μ-loop route case cost₀ t₀ cost t = 5 - t
+μ-loop route case cost₀ t₀ cost t = 6 - t
 
 loop-holds : tie.Need-loop-holds Inv-loop μ-loop
 loop-holds c = search needs
 
-byte-at-requires : tie.Need-byte-at-requires Inv-loop μ-loop
-byte-at-requires c κs = search needs
-
-add-cost : tie.Need-add-cost Inv-loop μ-loop
-add-cost c = search needs
+cost-at-requires : tie.Need-cost-at-requires Inv-loop μ-loop
+cost-at-requires c κs = search needs
 
 add-t : tie.Need-add-t Inv-loop μ-loop
 add-t c = search needs
@@ -38,8 +35,7 @@ cost-of-spec =
     Inv-loop
     μ-loop
     loop-holds
-    byte-at-requires
-    add-cost
+    cost-at-requires
     add-t
     loop-less
     loop-again

@@ -7,10 +7,10 @@ use Rattle.route_cases.proofs.draw_columns.Statement.{statement}
 use Rattle.route_cases.proofs.draw_columns.Tie as tie
 
 abbrev Inv-loop : tie.InvT-loop
-Inv-loop columns₀ case seed s₀ node₀ columns s node = (length columns ≡ length columns₀) × (node ≤ 8)
+Inv-loop hall columns₀ case seed s₀ node₀ columns s node = (length columns ≡ length columns₀) × (node ≤ 8)
 
 abbrev μ-loop : tie.MeasureT-loop
-μ-loop columns₀ case seed s₀ node₀ columns s node = 8 - node
+μ-loop hall columns₀ case seed s₀ node₀ columns s node = 8 - node
 
 loop-holds : tie.Need-loop-holds Inv-loop μ-loop
 loop-holds c = search needs

@@ -7,10 +7,10 @@ use Rattle.route_cases.proofs.enumerated.Statement.{statement}
 use Rattle.route_cases.proofs.enumerated.Tie as tie
 
 abbrev Inv-loop : tie.InvT-loop
-Inv-loop hall columns case kept₀ end least₀ code₀ kept least code = (length kept ≡ length kept₀) × (code ≤ end) × (end ≤ 625)
+Inv-loop hall columns case rule kept₀ end least₀ code₀ kept least code = (length kept ≡ length kept₀) × (code ≤ end) × (end ≤ 3125)
 
 abbrev μ-loop : tie.MeasureT-loop
-μ-loop hall columns case kept₀ end least₀ code₀ kept least code = end - code
+μ-loop hall columns case rule kept₀ end least₀ code₀ kept least code = end - code
 
 ways-requires : tie.Need-ways-requires Inv-loop μ-loop
 ways-requires c κs = search needs

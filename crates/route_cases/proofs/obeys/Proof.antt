@@ -5,10 +5,10 @@ use Rattle.route_cases.proofs.obeys.Statement.{statement}
 use Rattle.route_cases.proofs.obeys.Tie as tie
 
 abbrev Inv-loop : tie.InvT-loop
-Inv-loop columns case route node₀ i₀ node i = i ≤ 8
+Inv-loop columns case rule route node₀ i₀ node i = i ≤ 8
 
 abbrev μ-loop : tie.MeasureT-loop
-μ-loop columns case route node₀ i₀ node i = 8 - i
+μ-loop columns case rule route node₀ i₀ node i = 8 - i
 
 loop-holds : tie.Need-loop-holds Inv-loop μ-loop
 loop-holds c = search needs

@@ -1,14 +1,14 @@
--- `route_cases::obeys_stay` is safe and ends: each turn looks at the next of 5 steps. Assumes nothing.
+-- `route_cases::obeys_stay` is safe and ends: each turn looks at the next of 6 steps. Assumes nothing.
 use borrow.Author.Needs.{needs}
 use Prim.Native.Nat.{_-_, _≤_}
 use Rattle.route_cases.proofs.obeys_stay.Statement.{statement}
 use Rattle.route_cases.proofs.obeys_stay.Tie as tie
 
 abbrev Inv-loop : tie.InvT-loop
-Inv-loop route h cell first last t₀ t = t ≤ 5
+Inv-loop route h cell first last t₀ t = t ≤ 6
 
 abbrev μ-loop : tie.MeasureT-loop
-μ-loop route h cell first last t₀ t = 5 - t
+μ-loop route h cell first last t₀ t = 6 - t
 
 loop-holds : tie.Need-loop-holds Inv-loop μ-loop
 loop-holds c = search needs
