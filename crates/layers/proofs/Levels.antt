@@ -105,13 +105,13 @@ some-left goal (v ∷ w ∷ r) e =
 -- ---- the least of several
 
 module _ (f : ℕ → ℕ) where
-  least-below : (w : ℕ) (ws : List ℕ) → List·Memᴰ w ws → leastOf (map f ws) ≤ f w
+  pub least-below : (w : ℕ) (ws : List ℕ) → List·Memᴰ w ws → leastOf (map f ws) ≤ f w
   unfolding leastOf
   least-below w [] m = elim m [ ]
   least-below w (x ∷ ws) (List·Memᴰ·head e) = let q : f w ≡ f x = ap f e in omega arith
   least-below w (x ∷ ws) (List·Memᴰ·tail m) = omega (arith, least-below w ws m)
 
-  least-above : (a : ℕ) → a ≤ 255 → ((w : ℕ) → a ≤ f w) → (ws : List ℕ) → a ≤ leastOf (map f ws)
+  pub least-above : (a : ℕ) → a ≤ 255 → ((w : ℕ) → a ≤ f w) → (ws : List ℕ) → a ≤ leastOf (map f ws)
   unfolding leastOf
   least-above a h k [] = omega arith
   least-above a h k (w ∷ ws) = omega (arith, k w, least-above a h k ws)
@@ -194,7 +194,7 @@ module _ (goal t : ℕ) where
   rested-least v h f k [] = end-front v h none
   rested-least v h f k (w ∷ ws) = rw (rested-least v h f k ws) (rested-min v (f w) (leastOf (map f ws)) (k w) (least-above f (suc t) (omega arith) k ws))
 
-  end-least : (o : Option (List ℕ)) → t ≤ 255 → t ≤ endOf goal t o
+  pub end-least : (o : Option (List ℕ)) → t ≤ 255 → t ≤ endOf goal t o
   unfolding endOf
   end-least none h = h
   end-least (some r) h = omega arith
@@ -425,16 +425,6 @@ module _ (stand : ℕ → ℕ → Bool) (turn : ℕ → ℕ → List ℕ) (goal 
       go : (o : Option (List ℕ)) → Holds (Leads goal n v) o → (endOf goal t o ≤ t + n) ⊎ (endOf goal t o ≡ 255)
       go none h = inr refl
       go (some r) h = inl (omega (arith, leads-cheap goal n v r h))
-
-  pub moves-most : (n t v last : ℕ) → (movesTo goal last t (way n t v) ≤ n) ⊎ (movesTo goal last t (way n t v) ≡ 255)
-  unfolding Holds movesTo movesOf
-  moves-most n t v last = go (way n t v) (eqb (endOf goal t (way n t v)) last) (way-leads n t v)
-    where
-      go : (o : Option (List ℕ)) (b : Bool) → Holds (Leads goal n v) o → (elim b [ true ↦ movesOf o | false ↦ 255 ] ≤ n) ⊎ _≡_ {A = ℕ} (elim b [ true ↦ movesOf o | false ↦ 255 ]) 255
-      go none true h = inr refl
-      go none false h = inr refl
-      go (some r) true h = inl (leads-few goal n v r h)
-      go (some r) false h = inr refl
 
 -- a way that ends in time is there
 pub end-some : (goal t : ℕ) (o : Option (List ℕ)) → endOf goal t o ≤ 63 → (r : List ℕ) × (o ≡ some r)

@@ -1,4 +1,5 @@
 pub mod CellLaws
+pub mod Cut
 pub mod Filled
 pub mod LayerLaws
 pub mod LeastLaws
@@ -7,6 +8,7 @@ pub mod OnwardLaws
 pub mod PassLaws
 pub mod SeekLaws
 pub mod Settled
+pub mod Soon
 pub mod StepLaws
 pub mod Turns
 pub mod Wrong

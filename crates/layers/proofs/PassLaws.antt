@@ -9,24 +9,24 @@ use mathlib.Core.Bool.{Bool, true, false, not}
 use mathlib.Core.List.{List}
 use lib.ListN.{length, getD}
 use Rattle.lists.proofs.Parts.{part-within}
+use Rattle.lent.specs.Lent.{SameFrom}
 use Rattle.lent.specs.Made.{Made}
 use Rattle.hall.specs.Hall.{size, isOpen}
 use Rattle.hall.specs.declared.Grid.{Grid}
 use Rattle.hall.proofs.HallCode.{area-small, layers-small}
+use Rattle.marks.proofs.Bearings.{max-assoc}
 use Rattle.shuts.specs.Shuts.{shutIf, Shut, Floor}
 use Rattle.shuts.specs.Post.{lentHall, LaidAt}
 use Rattle.shuts.proofs.Laid.{laid-shut, laid-closed, unlaid, laid-crossings}
-use Rattle.layers.specs.Fill.{leastWay, levelBy, otherHalf, IsHalf, Pads, Copied, LayerMade, markFor, arrives, arrival, rested, ArrivalLaid, RestLaid, leastOn, PassedOn}
+use Rattle.layers.specs.Fill.{leastWay, levelBy, otherHalf, IsHalf, Pads, Copied, LayerMade, markFor, arrives, elsewhere, arrival, rested, ArrivalLaid, RestLaid, leastOn, PassedOn}
 use Rattle.layers.specs.Post.{Fillable, NoCrossing}
 use Rattle.layers.specs.declared.Trip.{Trip}
 use Rattle.layers.proofs.LayerLaws.{first-half, half-turned}
+use Rattle.layers.proofs.StepLaws.{arrival-same}
 use Rattle.layers.proofs.LeastLaws.{least-on, leastOn-same}
 
 pub next-layer : (s n : ℕ) → (s + 1) * n ≡ s * n + n
 next-layer s n = add-mul s 1 n ∙ ap (λ x. s * n + x) (one-mul n)
-
-max-assoc : (a b c : ℕ) → max (max a b) c ≡ max a (max b c)
-max-assoc a b c = omega arith
 
 -- ---- where the bytes of a pass lie
 
@@ -157,7 +157,7 @@ module _ (grid : Grid) (floor : List ℕ) (moves crossing : Bool) (goal plane la
 
 -- ---- the whole pass
 
-module _ (grid : Grid) (floor : List ℕ) (moves crossing : Bool) (goal plane last : ℕ) (before marked first : List ℕ) (slate' : List ℕ) (shut level : ℕ) (m : Made (last * (grid .width * grid .height)) (grid .width * grid .height) (λ v byte. markFor moves last byte) before marked) (e : shut ≡ getD floor (1280 + goal) 0) (k : level ≡ arrives moves last) (a : ArrivalLaid goal shut level (grid .width * grid .height) (last * (grid .width * grid .height)) marked slate' first) where
+module _ (grid : Grid) (floor : List ℕ) (moves crossing : Bool) (goal plane last : ℕ) (before marked first : List ℕ) (slate' : List ℕ) (level rest : ℕ) (m : Made (last * (grid .width * grid .height)) (grid .width * grid .height) (λ v byte. markFor moves last byte) before marked) (k : level ≡ arrives moves last) (r : rest ≡ elsewhere moves) (a : ArrivalLaid goal level rest (λ v. getD floor (1280 + v) 0) (grid .width * grid .height) (last * (grid .width * grid .height)) marked slate' first) where
   -- but for the layer where it begins, nothing has changed at first
   first-under : (x : ℕ) → x < last * (grid .width * grid .height) → getD first x 0 ≡ getD before x 0
   first-under x h = a .layer .under x h ∙ m .under x h
@@ -172,20 +172,31 @@ module _ (grid : Grid) (floor : List ℕ) (moves crossing : Bool) (goal plane la
       let w = next-layer last (grid .width * grid .height) in
       first-over (plane + t * (grid .width * grid .height) + v) (omega arith) ∙ rw q (f c t v (omega arith) j)
 
-  pub passing-ends : goal < (grid .width * grid .height) → (last + 1) * (grid .width * grid .height) ≤ plane → (layers shuts slate : List ℕ) (from t : ℕ) → Passing grid floor moves crossing goal plane last first layers shuts slate from t → t ≤ 0 → PassedOn grid floor moves goal plane last before layers
-  passing-ends inside room layers shuts slate from t p l bytes fl =
+  passing-kept : (layers shuts slate : List ℕ) (from t : ℕ) → Passing grid floor moves crossing goal plane last first layers shuts slate from t → SameFrom ((last + 1) * (grid .width * grid .height)) before layers
+  passing-kept layers shuts slate from t p =
       record {
         long = p .long ∙ (a .layer .long ∙ m .long);
-        arrived = λ v h.
-            p .over (last * (grid .width * grid .height) + v) (omega arith)
-            ∙ (a .layer .made v h
-            ∙ ap (arrival goal shut level v) (m .made v h)
-            ∙ ap (λ s. arrival goal s level v (markFor moves last (getD before (last * (grid .width * grid .height) + v) 0))) (e ∙ fl .closed goal inside)
-            ∙ ap (λ l. arrival goal (shutIf (not (isOpen (lentHall grid bytes) goal))) l v (markFor moves last (getD before (last * (grid .width * grid .height) + v) 0))) k);
-        made = λ s v h i.
-            let b = part-within s last (grid .width * grid .height) h in
-            p .made bytes fl s v (omega arith) h i
-            ∙ ap (λ x. rested moves goal s v (max (markFor moves last x) (leastOn (lentHall grid bytes) moves (λ w. getD layers ((s + 1) * (grid .width * grid .height) + w) 0) v (getD first (plane + s * (grid .width * grid .height) + v) 0)))) (first-under (s * (grid .width * grid .height) + v) (omega arith))
-            ∙ ap (λ x. rested moves goal s v (max (markFor moves last (getD before (s * (grid .width * grid .height) + v) 0)) (leastOn (lentHall grid bytes) moves (λ w. getD layers ((s + 1) * (grid .width * grid .height) + w) 0) v x))) (first-over (plane + s * (grid .width * grid .height) + v) (omega arith));
-        over = λ x h. let q = next-layer last (grid .width * grid .height) in p .over x (omega arith) ∙ first-over x h;
+        rest = λ x h. let q = next-layer last (grid .width * grid .height) in p .over x (omega arith) ∙ first-over x h;
       }
+
+  pub passing-ends : goal < (grid .width * grid .height) → (last + 1) * (grid .width * grid .height) ≤ plane → (layers shuts slate : List ℕ) (from t : ℕ) → Passing grid floor moves crossing goal plane last first layers shuts slate from t → t ≤ 0 → PassedOn grid floor moves goal plane last before layers × SameFrom ((last + 1) * (grid .width * grid .height)) before layers
+  passing-ends inside room layers shuts slate from t p l =
+      let kept = passing-kept layers shuts slate from t p in (
+        λ bytes fl. record {
+          long = kept .long;
+          arrived = λ v h.
+              p .over (last * (grid .width * grid .height) + v) (omega arith)
+              ∙ (a .layer .made v h
+              ∙ ap (arrival goal level rest (λ w. getD floor (1280 + w) 0) v) (m .made v h)
+              ∙ arrival-same goal level rest (λ w. getD floor (1280 + w) 0) (λ w. shutIf (not (isOpen (lentHall grid bytes) w))) v (markFor moves last (getD before (last * (grid .width * grid .height) + v) 0)) (fl .closed v h)
+              ∙ ap (λ l. arrival goal l rest (λ w. shutIf (not (isOpen (lentHall grid bytes) w))) v (markFor moves last (getD before (last * (grid .width * grid .height) + v) 0))) k
+              ∙ ap (λ x. arrival goal (arrives moves last) x (λ w. shutIf (not (isOpen (lentHall grid bytes) w))) v (markFor moves last (getD before (last * (grid .width * grid .height) + v) 0))) r);
+          made = λ s v h i.
+              let b = part-within s last (grid .width * grid .height) h in
+              p .made bytes fl s v (omega arith) h i
+              ∙ ap (λ x. rested moves goal s v (max (markFor moves last x) (leastOn (lentHall grid bytes) moves (λ w. getD layers ((s + 1) * (grid .width * grid .height) + w) 0) v (getD first (plane + s * (grid .width * grid .height) + v) 0)))) (first-under (s * (grid .width * grid .height) + v) (omega arith))
+              ∙ ap (λ x. rested moves goal s v (max (markFor moves last (getD before (s * (grid .width * grid .height) + v) 0)) (leastOn (lentHall grid bytes) moves (λ w. getD layers ((s + 1) * (grid .width * grid .height) + w) 0) v x))) (first-over (plane + s * (grid .width * grid .height) + v) (omega arith));
+          over = kept .rest;
+        },
+        kept,
+      )

@@ -5,14 +5,15 @@ use native.Mathlib.Decide.{ℕ-discrete}
 use mathlib.Core.Path.{_≡_, refl, sym, ap, _∙_}
 use mathlib.Core.Bool.{Bool, true, false, true≢false, _&&_}
 use mathlib.Core.List.{List}
+use mathlib.Core.Logic.{_⊎_, inl, inr}
 use lib.Dec.{eqb}
 use lib.ListN.{length, getD, set, replicate, length-set, length-replicate, getD-replicate}
 use lib.Seq.{getD-set-same, getD-set-other}
 use borrow.Author.Tests.{eq-eqb, ne-eqb}
 use Rattle.lent.specs.Made.{Made}
 use Rattle.lent.proofs.MadeLaws.{made-same}
-use Rattle.layers.specs.Fill.{IsHalf, Pads, Copied, markFor, arrives, arrival, rested, ArrivalLaid, RestLaid}
-use Rattle.layers.proofs.LayerLaws.{half-small, first-half, pads-kept}
+use Rattle.layers.specs.Fill.{IsHalf, Pads, Copied, markFor, arrives, elsewhere, arrival, rested, ArrivalLaid, RestLaid}
+use Rattle.layers.proofs.LayerLaws.{half-small, pads-kept}
 
 -- ---- marks
 
@@ -45,51 +46,82 @@ unfolding arrives
 arrives-ends true last e = absurd (true≢false e)
 arrives-ends false last e = refl
 
-arrival-here : (goal shut level mark : ℕ) → arrival goal shut level goal mark ≡ max level (max mark shut)
-unfolding arrival
-arrival-here goal shut level mark = rw (eq-eqb goal goal refl, arrival)
+pub elsewhere-moves : (moves : Bool) → moves ≡ true → 255 ≡ elsewhere moves
+unfolding elsewhere
+elsewhere-moves true e = refl
+elsewhere-moves false e = absurd (true≢false (sym e))
 
-arrival-away : (goal shut level v mark : ℕ) → (v ≡ goal → ⊥) → arrival goal shut level v mark ≡ 255
-unfolding arrival
-arrival-away goal shut level v mark k = rw (ne-eqb v goal k, arrival)
+pub elsewhere-ends : (moves : Bool) → moves ≡ false → 254 ≡ elsewhere moves
+unfolding elsewhere
+elsewhere-ends true e = absurd (true≢false e)
+elsewhere-ends false e = refl
+
+module _ (goal level rest : ℕ) (shut : ℕ → ℕ) where
+  pub arrival-here : (mark : ℕ) → arrival goal level rest shut goal mark ≡ max level (max mark (shut goal))
+  unfolding arrival
+  arrival-here mark = rw (arrival, eq-eqb goal goal refl)
+
+  pub arrival-away : (v mark : ℕ) → (v ≡ goal → ⊥) → arrival goal level rest shut v mark ≡ max rest (max mark (shut v))
+  unfolding arrival
+  arrival-away v mark k = rw (arrival, ne-eqb v goal k)
+
+  pub arrival-same : (shut′ : ℕ → ℕ) (v mark : ℕ) → shut v ≡ shut′ v → arrival goal level rest shut v mark ≡ arrival goal level rest shut′ v mark
+  unfolding arrival
+  arrival-same shut′ v mark e = ap (λ x. max (elim (eqb v goal) [ true ↦ level | false ↦ rest ]) (max mark x)) e
 
 -- a slate with nothing on it
 blank-at : (slate : List ℕ) → slate ≡ replicate 576 255 → (x : ℕ) → x < 576 → getD slate x 0 ≡ 255
 blank-at slate e x h = rw e (getD-replicate 576 x 255 0 h)
+
+pub blank-long : (slate : List ℕ) → slate ≡ replicate 576 255 → length slate ≡ 576
+blank-long slate e = ap length e ∙ length-replicate {A = ℕ} 576 255
 
 blank-pads : (n : ℕ) (slate : List ℕ) → slate ≡ replicate 576 255 → Pads n slate
 unfolding IsHalf
 blank-pads n slate e =
     record { above = λ from x i h. blank-at slate e (from + x) (omega (arith, half-small from i)); below = λ from x i l h. blank-at slate e (from + x) (omega (arith, half-small from i)) }
 
-module _ (goal shut level n base : ℕ) (slate layers : List ℕ) (blank : slate ≡ replicate 576 255) (inside : goal < n) (small : n ≤ 256) where
-  long : length slate ≡ 576
-  long = ap length blank ∙ length-replicate {A = ℕ} 576 255
+-- what is written on it beside the first cells leaves its pads
+laid-pads : (n : ℕ) (f : ℕ → ℕ → ℕ) (slate slate' : List ℕ) → n ≤ 256 → Pads n slate → Made 16 n f slate slate' → Pads n slate'
+unfolding IsHalf
+laid-pads n f slate slate' small p m =
+    record { above = λ from x i h. above from x i i h ∙ p .above from x i h; below = λ from x i l h. m .over (from + x) (omega arith) ∙ p .below from x i l h }
+  where
+    above : (from x : ℕ) → IsHalf from → (from ≡ 0) ⊎ (from ≡ 288) → x < 16 → getD slate' (from + x) 0 ≡ getD slate (from + x) 0
+    above from x i (inl e) h = m .under (from + x) (omega arith)
+    above from x i (inr e) h = m .over (from + x) (omega arith)
 
-  abbrev there : ℕ
-  there = max level (max (getD layers (base + goal) 0) shut)
+module _ (goal level rest : ℕ) (shut : ℕ → ℕ) (n base : ℕ) (slate layers : List ℕ) (blank : slate ≡ replicate 576 255) (inside : goal < n) (small : n ≤ 256) (room : base + n ≤ length layers) where
+  abbrev mark : ℕ → ℕ
+  mark v = getD layers (base + v) 0
 
-  on-slate : (v : ℕ) → v < n → Dec (v ≡ goal) → getD (set slate (16 + goal) there) (16 + v) 0 ≡ arrival goal shut level v (getD layers (base + v) 0)
-  on-slate v h (yes e) = rw (e, arrival-here goal shut level (getD layers (base + goal) 0)) (getD-set-same slate (16 + goal) there 0 (omega (arith, long)))
-  on-slate v h (no k) = rw (arrival-away goal shut level v (getD layers (base + v) 0) k) (getD-set-other slate (16 + goal) (16 + v) there 0 (λ q. k (omega arith)) ∙ blank-at slate blank (16 + v) (omega arith))
+  module _ (there inner : ℕ) (laid : List ℕ) (e : inner ≡ max (mark goal) (shut goal)) (k : there ≡ max level inner) (m : Made base n (λ v byte. max rest (max byte (shut v))) layers laid) where
+    laid-at : (v : ℕ) → v < n → Dec (v ≡ goal) → getD (set laid (base + goal) there) (base + v) 0 ≡ arrival goal level rest shut v (mark v)
+    laid-at v h (yes q) = rw (q, arrival-here goal level rest shut (mark goal)) (getD-set-same laid (base + goal) there 0 (omega (arith, m .long)) ∙ k ∙ ap (max level) e)
+    laid-at v h (no q) = rw (arrival-away goal level rest shut v (mark v) q) (getD-set-other laid (base + goal) (base + v) there 0 (λ p. q (omega arith)) ∙ m .made v h)
 
-  pub arrival-laid : (inner outer : ℕ) (layers' : List ℕ) → inner ≡ max (getD layers (base + goal) 0) shut → outer ≡ max level inner → Made base n (λ v byte. getD (set slate (16 + goal) outer) (16 + v) 0) layers layers' → ArrivalLaid goal shut level n base layers (set slate (16 + goal) outer) layers'
-  arrival-laid inner outer layers' e k m =
-      let q : outer ≡ there = k ∙ ap (max level) e in
-      record {
-        layer = record { long = m .long; made = λ v h. m .made v h ∙ (ap (λ x. getD (set slate (16 + goal) x) (16 + v) 0) q ∙ on-slate v h (ℕ-discrete v goal)); under = m .under; over = m .over };
-        copied = λ v h. sym (m .made v h);
-        wide = length-set slate (16 + goal) outer ∙ long;
-        pads = pads-kept n slate 0 goal outer first-half inside small (blank-pads n slate blank);
-      }
+    pub arrival-laid : (slate' : List ℕ) → Made 16 n (λ v byte. getD (set laid (base + goal) there) (base + v) 0) slate slate' → ArrivalLaid goal level rest shut n base layers slate' (set laid (base + goal) there)
+    arrival-laid slate' c =
+        record {
+          layer =
+              record {
+                long = length-set laid (base + goal) there ∙ m .long;
+                made = λ v h. laid-at v h (ℕ-discrete v goal);
+                under = λ x h. getD-set-other laid (base + goal) x there 0 (λ p. absurd (omega arith)) ∙ m .under x h;
+                over = λ x h. getD-set-other laid (base + goal) x there 0 (λ p. absurd (omega arith)) ∙ m .over x h;
+              };
+          copied = λ v h. c .made v h;
+          wide = c .long ∙ blank-long slate blank;
+          pads = laid-pads n (λ v byte. getD (set laid (base + goal) there) (base + v) 0) slate slate' small (blank-pads n slate blank) c;
+        }
 
 -- ---- where a way rests
 
-rested-here : (goal t : ℕ) → rested false goal t goal (t + 1) ≡ t
+pub rested-here : (goal t : ℕ) → rested false goal t goal (t + 1) ≡ t
 unfolding rested
 rested-here goal t = rw (eq-eqb goal goal refl, eq-eqb (t + 1) (t + 1) refl, rested)
 
-rested-away : (goal t v x : ℕ) → (v ≡ goal → ⊥) → rested false goal t v x ≡ x
+pub rested-away : (goal t v x : ℕ) → (v ≡ goal → ⊥) → rested false goal t v x ≡ x
 unfolding rested
 rested-away goal t v x k = rw (ne-eqb v goal k, rested)
 

@@ -79,16 +79,20 @@ unfoldable pub markFor : Bool → ℕ → ℕ → ℕ
 markFor false last byte = byte
 markFor true last byte = elim (eqb byte last) [ true ↦ 0 | false ↦ 255 ]
 
--- the level of the goal at the step where the pass begins, if a carrier may stand there
+-- the levels at the step where the pass begins, where a carrier may stand: on the goal, and elsewhere, from where a way may still end later
 unfoldable pub arrives : Bool → ℕ → ℕ
 arrives false last = last
 arrives true last = 0
 
-unfoldable pub arrival : ℕ → ℕ → ℕ → ℕ → ℕ → ℕ
-arrival goal shut level v mark = elim (eqb v goal) [ true ↦ max level (max mark shut) | false ↦ 255 ]
+unfoldable pub elsewhere : Bool → ℕ
+elsewhere false = 254
+elsewhere true = 255
 
-pub record ArrivalLaid (goal shut level n base : ℕ) (layers slate' layers' : List ℕ) : Type 0 where
-  pub layer : Made base n (arrival goal shut level) layers layers'
+unfoldable pub arrival : ℕ → ℕ → ℕ → (ℕ → ℕ) → ℕ → ℕ → ℕ
+arrival goal level rest shut v mark = max (elim (eqb v goal) [ true ↦ level | false ↦ rest ]) (max mark (shut v))
+
+pub record ArrivalLaid (goal level rest : ℕ) (shut : ℕ → ℕ) (n base : ℕ) (layers slate' layers' : List ℕ) : Type 0 where
+  pub layer : Made base n (arrival goal level rest shut) layers layers'
   pub copied : Copied n base 0 slate' layers'
   pub wide : length slate' ≡ 576
   pub pads : Pads n slate'
@@ -123,7 +127,7 @@ leastOn hall moves next v digits =
 -- a pass: the layers up to `last`, and no others, are made of their marks, each of the next; the digits stand in the second plane
 pub record Passed (hall : Hall) (moves : Bool) (goal plane last : ℕ) (before after : List ℕ) : Type 0 where
   pub long : length after ≡ length before
-  pub arrived : (v : ℕ) → v < size hall → getD after (last * size hall + v) 0 ≡ arrival goal (shutIf (not (isOpen hall goal))) (arrives moves last) v (markFor moves last (getD before (last * size hall + v) 0))
+  pub arrived : (v : ℕ) → v < size hall → getD after (last * size hall + v) 0 ≡ arrival goal (arrives moves last) (elsewhere moves) (λ w. shutIf (not (isOpen hall w))) v (markFor moves last (getD before (last * size hall + v) 0))
   pub made : (t v : ℕ) → t < last → v < size hall → getD after (t * size hall + v) 0 ≡ rested moves goal t v (max (markFor moves last (getD before (t * size hall + v) 0)) (leastOn hall moves (λ w. getD after ((t + 1) * size hall + w) 0) v (getD before (plane + t * size hall + v) 0)))
   pub over : (x : ℕ) → (last + 1) * size hall ≤ x → getD after x 0 ≡ getD before x 0
 

@@ -1,7 +1,8 @@
 // Has a carrier a route under its bars, and what does the best one cost? Worked out in the lent layers.
 // Document 02, P2: 'Among routes of least cost take those with the fewest moves'. The layers are filled twice, each time step by step back
 // to 0: first with the step at which the best way on from a cell ends; then, on the ways that end where the best route does, with their
-// fewest moves. Crate writer then reads the route off forwards.
+// fewest moves. Crate writer then reads the route off forwards. The first pass begins at a step by which the route has most likely ended,
+// and only where it may end later is it begun again at the horizon.
 use hall::Grid;
 use marks::Bound;
 ghost use Prim.Native.Nat.{_+_, _-_, _*_, min, max, _≤_, _<_};
@@ -9,16 +10,20 @@ ghost use mathlib.Core.Bool.{true, _||_};
 ghost use mathlib.Core.Path.{_≡_};
 ghost use lib.Dec.{eqb};
 ghost use lib.ListN.{length, getD, set, replicate};
+ghost use Rattle.lent.specs.Lent.{SameFrom};
 ghost use Rattle.lent.specs.Made.{Made};
 ghost use Rattle.records.specs.Columns.{Falls};
 ghost use Rattle.marks.specs.Marks.{boundBy};
 ghost use Rattle.marks.specs.Post.{Layered};
 ghost use Rattle.shuts.specs.Post.{lentHall, RightGrid};
-ghost use Rattle.layers.specs.Fill.{oneMore, paidFor, nearEntry, wayBy, leastWay, levelBy, otherHalf, IsHalf, Copied, LayerMade, markFor, arrives, ArrivalLaid, RestLaid, PassedOn};
-ghost use Rattle.layers.specs.Post.{Fillable, NoCrossing, SoughtRoute};
+ghost use Rattle.layers.specs.Fill.{oneMore, paidFor, nearEntry, wayBy, leastWay, levelBy, otherHalf, IsHalf, Copied, LayerMade, markFor, arrives, elsewhere, ArrivalLaid, RestLaid, PassedOn};
+ghost use Rattle.layers.specs.Layers.{apart, away, soonBy};
+ghost use Rattle.layers.specs.Post.{Fillable, NoCrossing, SoughtOn, SoughtWhole, isAnswer, endTold, SoughtRoute};
 
-// No way.
+// No way, and one that may end later than is looked at.
 const NO_WAY: u8 = 255;
+
+const LATER: u8 = 254;
 
 // What a route is sought for.
 pub struct Trip {
@@ -42,6 +47,9 @@ const PAD: usize = 16;
 const HALF: usize = 288;
 
 const SLATE: usize = 576;
+
+// A way round something costs two steps.
+const ROUND: usize = 2;
 
 // ---- one cell
 
@@ -267,7 +275,7 @@ fn lay_marks(moves: bool, last: usize, base: usize, size: usize, layers: &mut [u
     }
 }
 
-// The level of the goal at the step where the pass begins.
+// The level of the goal at the step where the pass begins, and of any other cell.
 fn arrives(moves: bool, last: usize) -> u8
     requires { ⌜ last ≤ 63 ⌝ }
     ensures { λ r. ⌜ r ≡ arrives moves last ⌝ }
@@ -278,23 +286,46 @@ fn arrives(moves: bool, last: usize) -> u8
     last as u8
 }
 
-// The first half of the slate, into a layer.
-fn copy_half(slate: &[u8; SLATE], base: usize, size: usize, layers: &mut [u8])
+fn elsewhere(moves: bool) -> u8
+    ensures { λ r. ⌜ r ≡ elsewhere moves ⌝ }
+{
+    if moves {
+        return NO_WAY;
+    }
+    LATER
+}
+
+// The layer as if a way from each cell might end later, or none, unless a carrier may not stand there.
+fn lay_rest(shuts: &[u8; shuts::SHUTS], rest: u8, base: usize, size: usize, layers: &mut [u8])
     requires { ⌜ (size ≤ 256) × (base + size ≤ length (now layers)) ⌝ }
-    ensures { λ _. ⌜ Made base size (λ v byte. getD (now (slate .entry)) (16 + v) 0) (now (layers .entry)) (now (layers .exit)) ⌝ }
+    ensures { λ _. ⌜ Made base size (λ v byte. max rest (max byte (getD (now (shuts .entry)) (1280 + v) 0))) (now (layers .entry)) (now (layers .exit)) ⌝ }
 {
     let mut v = 0;
     while v < size {
-        layers[base + v] = slate[PAD + v];
+        layers[base + v] = greater(rest, greater(layers[base + v], shuts[shuts::CLOSED + v]));
         v += 1;
     }
 }
 
-// The layer at the step where the pass begins: a way ends there only on the goal, if a carrier may stand on it.
+// A layer, into the first half of the slate.
+fn copy_layer(layers: &[u8], base: usize, size: usize, slate: &mut [u8; SLATE])
+    requires { ⌜ (size ≤ 256) × (base + size ≤ length (now layers)) × (length (now slate) ≡ 576) ⌝ }
+    ensures { λ _. ⌜ Made 16 size (λ v byte. getD (now (layers .entry)) (base + v) 0) (now (slate .entry)) (now (slate .exit)) ⌝ }
+{
+    let mut v = 0;
+    while v < size {
+        slate[PAD + v] = layers[base + v];
+        v += 1;
+    }
+}
+
+// The layer at the step where the pass begins: a way ends there only on the goal, if a carrier may stand on it; from elsewhere it may end
+// later.
 fn lay_arrival(
+    shuts: &[u8; shuts::SHUTS],
     goal: usize,
-    shut: u8,
     level: u8,
+    rest: u8,
     base: usize,
     size: usize,
     slate: &mut [u8; SLATE],
@@ -302,10 +333,15 @@ fn lay_arrival(
 )
     requires { ⌜ (goal < size) × (size ≤ 256) × (base + size ≤ length (now layers)) ⌝ }
     requires { ⌜ now slate ≡ replicate 576 255 ⌝ }
-    ensures { λ _. ⌜ ArrivalLaid goal shut level size base (now (layers .entry)) (now (slate .exit)) (now (layers .exit)) ⌝ }
+    ensures { λ _. ⌜ ArrivalLaid goal level rest (λ v. getD (now (shuts .entry)) (1280 + v) 0) size base (now (layers .entry)) (now (slate .exit)) (now (layers .exit)) ⌝ }
 {
-    slate[PAD + goal] = greater(level, greater(layers[base + goal], shut));
-    copy_half(slate, base, size, layers);
+    let there = greater(
+        level,
+        greater(layers[base + goal], shuts[shuts::CLOSED + goal]),
+    );
+    lay_rest(shuts, rest, base, size, layers);
+    layers[base + goal] = there;
+    copy_layer(layers, base, size, slate);
 }
 
 // On the goal, where all of the rest is on it too, the way ended when it came there.
@@ -345,7 +381,7 @@ fn fill_back(
     layers: &mut [u8],
 )
     requires { ⌜ Fillable grid trip last (now layers) × NoCrossing crossing (grid .width * grid .height) (trip .horizon) (now layers) ⌝ }
-    ensures { λ _. ⌜ PassedOn grid (now (floor .entry)) moves (trip .goal) ((trip .horizon + 1) * (grid .width * grid .height)) last (now (layers .entry)) (now (layers .exit)) ⌝ }
+    ensures { λ _. ⌜ PassedOn grid (now (floor .entry)) moves (trip .goal) ((trip .horizon + 1) * (grid .width * grid .height)) last (now (layers .entry)) (now (layers .exit)) × SameFrom ((last + 1) * (grid .width * grid .height)) (now (layers .entry)) (now (layers .exit)) ⌝ }
 {
     let size = grid.width * grid.height;
     let plane = (trip.horizon + 1) * size;
@@ -354,9 +390,9 @@ fn fill_back(
     let mut slate = [NO_WAY; SLATE];
     let first = last * size;
     lay_marks(moves, last, first, size, layers);
-    let shut = shuts[shuts::CLOSED + goal];
     let level = arrives(moves, last);
-    lay_arrival(goal, shut, level, first, size, &mut slate, layers);
+    let rest = elsewhere(moves);
+    lay_arrival(&shuts, goal, level, rest, first, size, &mut slate, layers);
     let mut from = 0;
     let mut t = last;
     while 0 < t {
@@ -380,6 +416,103 @@ fn fill_back(
     }
 }
 
+// ---- the two passes
+
+fn later(a: usize, b: usize) -> usize
+    ensures { λ r. ⌜ r ≡ max a b ⌝ }
+{
+    if a <= b { b } else { a }
+}
+
+fn sooner(a: usize, b: usize) -> usize
+    ensures { λ r. ⌜ r ≡ min a b ⌝ }
+{
+    if a <= b { a } else { b }
+}
+
+// How far apart two rows or two columns are.
+fn apart(a: usize, b: usize) -> usize
+    ensures { λ r. ⌜ r ≡ apart a b ⌝ }
+{
+    if a <= b { b - a } else { a - b }
+}
+
+// The steps that the goal is away from the start, if nothing is in the way.
+fn away(width: usize, trip: Trip) -> usize
+    requires { ⌜ (1 ≤ width) × (trip .start < 256) × (trip .goal < 256) ⌝ }
+    ensures { λ r. ⌜ r ≡ away width (trip .start) (trip .goal) ⌝ }
+{
+    let rows = apart(trip.start / width, trip.goal / width);
+    let columns = apart(trip.start % width, trip.goal % width);
+    rows + columns
+}
+
+// A step by which the best route has most likely ended, and from which on no bar forbids anything.
+fn soon_by(width: usize, trip: Trip, until: usize) -> usize
+    requires { ⌜ (1 ≤ width) × (trip .start < 256) × (trip .goal < 256) × (until ≤ 64) ⌝ }
+    ensures { λ r. ⌜ r ≡ soonBy width (trip .start) (trip .goal) (trip .horizon) until ⌝ }
+{
+    let direct = away(width, trip);
+    sooner(trip.horizon, later(until, direct) + ROUND)
+}
+
+// Both passes, for a route that ends by step `late`: what is found of it.
+fn seek_by(
+    floor: &[u8; shuts::SHUTS],
+    grid: Grid,
+    trip: Trip,
+    late: usize,
+    crossing: bool,
+    layers: &mut [u8],
+) -> u8
+    requires { ⌜ Fillable grid trip late (now layers) × NoCrossing crossing (grid .width * grid .height) (trip .horizon) (now layers) × (trip .start < grid .width * grid .height) ⌝ }
+    ensures { λ r. ⌜ SoughtOn grid (now (floor .entry)) trip late (now (layers .entry)) (now (layers .exit)) r ⌝ }
+{
+    fill_back(floor, grid, trip, late, false, crossing, layers);
+    let start = trip.start;
+    let end = layers[start];
+    if late < end as usize {
+        return end;
+    }
+    fill_back(floor, grid, trip, end as usize, true, crossing, layers);
+    end
+}
+
+// The same once more, from marks laid anew and as far as the horizon.
+fn seek_whole(
+    floor: &[u8; shuts::SHUTS],
+    grid: Grid,
+    trip: Trip,
+    columns: &[u16],
+    bound: Bound,
+    layers: &mut [u8],
+) -> u8
+    requires { ⌜ Layered (grid .width) (grid .height) (trip .horizon) (now layers) × Falls (bound .capacity) (now columns) (bound .node) ⌝ }
+    requires { ⌜ (trip .start < grid .width * grid .height) × (trip .goal < grid .width * grid .height) ⌝ }
+    ensures { λ r. ⌜ SoughtWhole grid (now (floor .entry)) trip (boundBy (bound .capacity) (now (columns .entry)) (bound .node) (bound .carrier) (bound .bar)) (now (layers .entry)) (now (layers .exit)) r ⌝ }
+{
+    let bearing = marks::mark_all(layers, grid, trip.horizon, columns, bound);
+    let crossing = bearing.crossing;
+    seek_by(floor, grid, trip, trip.horizon, crossing, layers)
+}
+
+// What is found by step `soon` is the answer, unless the route may end later.
+fn is_answer(end: u8, soon: usize, horizon: usize) -> bool
+    ensures { λ r. ⌜ r ≡ isAnswer end soon horizon ⌝ }
+{
+    end != LATER || soon == horizon
+}
+
+// What an end tells.
+fn end_told(end: u8) -> Sought
+    ensures { λ r. ⌜ r ≡ endTold end ⌝ }
+{
+    if LATER <= end {
+        return Sought::Nothing;
+    }
+    Sought::Cost(end as usize)
+}
+
 // Rule 2: whether a carrier has a route under the bars that bind it at a node and a new one, and its least cost. The layers then hold
 // what is wanted to read the route off (`writer::write_route`).
 pub fn seek_route(
@@ -394,15 +527,15 @@ pub fn seek_route(
     requires { ⌜ (trip .start < grid .width * grid .height) × (trip .goal < grid .width * grid .height) × Falls (bound .capacity) (now columns) (bound .node) ⌝ }
     ensures { λ r. ⌜ SoughtRoute (lentHall grid (now (hall .entry))) (boundBy (bound .capacity) (now (columns .entry)) (bound .node) (bound .carrier) (bound .bar)) (trip .start) (trip .goal) (trip .horizon) (now (layers .entry)) (now (layers .exit)) r ⌝ }
 {
-    let crossing = marks::mark_all(layers, grid, trip.horizon, columns, bound);
     let mut floor = [0; shuts::SHUTS];
     shuts::lay_floor(hall, grid, &mut floor);
-    fill_back(&floor, grid, trip, trip.horizon, false, crossing, layers);
-    let start = trip.start;
-    let end = layers[start];
-    if end == NO_WAY {
-        return Sought::Nothing;
+    let bearing = marks::mark_all(layers, grid, trip.horizon, columns, bound);
+    let crossing = bearing.crossing;
+    let soon = soon_by(grid.width, trip, bearing.until);
+    let end = seek_by(&floor, grid, trip, soon, crossing, layers);
+    if is_answer(end, soon, trip.horizon) {
+        return end_told(end);
     }
-    fill_back(&floor, grid, trip, end as usize, true, crossing, layers);
-    Sought::Cost(end as usize)
+    let last = seek_whole(&floor, grid, trip, columns, bound, layers);
+    end_told(last)
 }

@@ -1,11 +1,8 @@
--- The sum of the weights 1, 2, 4, 8, 16 of five tests: it lies below the next weight, and the digit of each test is read off by a
--- division. Assumes nothing.
+-- The sum of the weights 1, 2, 4, 8, 16 of five tests: the digit of each test is read off by a division. Assumes nothing.
 use Prim.Native.Nat.{ℕ, zero, suc, _+_, _*_, _/_, _%_, _^_, _≤_, _<_}
-use native.Mathlib.Nat.{pow-suc}
 use native.Mathlib.Omega.{arith}
 use mathlib.Core.Path.{_≡_}
 use mathlib.Core.Bool.{Bool, true, false}
-use lib.Pow.{pow-mono}
 use Rattle.lists.specs.Lists.{sumTo}
 use Rattle.hall.specs.Moves.{moveCount}
 use Rattle.marks.specs.Marks.{digit}
@@ -19,11 +16,6 @@ unfolding digit bit
 digit-weight true m = omega arith
 digit-weight false m = omega arith
 
-digit-most : (b : Bool) (m : ℕ) → digit b m ≤ 2 ^ m
-unfolding digit
-digit-most true m = omega arith
-digit-most false m = omega arith
-
 bit-small : (b : Bool) → bit b ≤ 1
 unfolding bit
 bit-small true = omega arith
@@ -32,14 +24,6 @@ bit-small false = omega arith
 module _ (f : ℕ → Bool) where
   abbrev pub digitsTo : ℕ → ℕ
   digitsTo n = sumTo n (λ m. digit (f m) m)
-
-  digits-below : (n : ℕ) → digitsTo n < 2 ^ n
-  unfolding sumTo
-  digits-below zero = omega arith
-  digits-below (suc n) = rw (pow-suc 2 n) (omega (arith, digits-below n, digit-most (f n) n))
-
-  pub digits-small : (n : ℕ) → n ≤ moveCount → digitsTo n ≤ 31
-  digits-small n l = omega (arith, digits-below n, pow-mono {i = n} {j = moveCount} l)
 
   five-digits : digitsTo moveCount ≡ bit (f 0) + 2 * bit (f 1) + 4 * bit (f 2) + 8 * bit (f 3) + 16 * bit (f 4)
   unfolding sumTo

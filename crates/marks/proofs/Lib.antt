@@ -1,4 +1,5 @@
 pub mod Above
+pub mod Bearings
 pub mod Crossings
 pub mod Digits
 pub mod FiveDigits
@@ -6,6 +7,7 @@ pub mod Marking
 pub mod More
 pub mod OneMove
 pub mod Places
+pub mod Quiet
 pub mod Settled
 pub mod Stays
 pub mod Wrong

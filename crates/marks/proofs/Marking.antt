@@ -21,7 +21,7 @@ use Rattle.marks.proofs.Digits.{digits-set, digits-kept}
 
 -- ---- where a bar forbids nothing
 
-not-stayed : (t v w a b : ℕ) → (v ≡ w → a ≤ t → t ≤ b → ⊥) → barsCell t v (Stay w a b) ≡ false
+pub not-stayed : (t v w a b : ℕ) → (v ≡ w → a ≤ t → t ≤ b → ⊥) → barsCell t v (Stay w a b) ≡ false
 unfolding barsCell
 not-stayed t v w a b n =
     is-false (λ p.
@@ -29,7 +29,7 @@ not-stayed t v w a b n =
     let (l, k) = and-both (leb a t) (leb t b) q in
     n (eqb→eq v w e) (leb→le a t l) (leb→le t b k))
 
-not-crossed : (t v u w s y : ℕ) → (t ≡ s → v ≡ u → ⊥) → barsWay t v y (Cross u w s) ≡ false
+pub not-crossed : (t v u w s y : ℕ) → (t ≡ s → v ≡ u → ⊥) → barsWay t v y (Cross u w s) ≡ false
 unfolding barsWay
 not-crossed t v u w s y n =
     is-false (λ p.

@@ -1,18 +1,17 @@
 -- Two results that the contract of `mark_all` allows are equal: every byte of the two planes is its mark, every other is as it was, and
--- what is told of crossings is the same. Assumes nothing.
+-- what is told of the bars is the same. Assumes nothing.
 use Prim.Native.Nat.{ℕ, zero, suc, _+_, _-_, _*_, _/_, _%_, _≤_, _<_}
 use native.Mathlib.Nat.{div-add-mod', div-lt-iff-lt-mul, mod-lt}
 use native.Mathlib.Decide.{decLe}
 use native.Mathlib.Omega.{arith}
 use mathlib.Core.Path.{_≡_, sym, ap, _∙_}
-use mathlib.Core.Bool.{Bool}
 use mathlib.Core.List.{List}
 use lib.ListN.{length, getD}
-use Rattle.lists.specs.Lists.{anyOf}
 use Rattle.lists.proofs.Parts.{same-entries}
 use Rattle.routes.specs.declared.Bar.{Bar}
-use Rattle.marks.specs.Marks.{crosses}
+use Rattle.marks.specs.Marks.{bearingOf}
 use Rattle.marks.specs.Post.{MarkedAll}
+use Rattle.marks.specs.declared.Bearing.{Bearing}
 
 -- planes of n cells for the steps up to h that agree at each step and cell
 plane-same : (n h : ℕ) (f g : ℕ → ℕ) → ((t v : ℕ) → t ≤ h → v < n → f (t * n + v) ≡ g (t * n + v)) → (x : ℕ) → x < (h + 1) * n → f x ≡ g x
@@ -44,7 +43,7 @@ module _ (n h : ℕ) (a b : List ℕ) (first : (t v : ℕ) → t ≤ h → v < n
           let e : (h + 1) * n + (x - (h + 1) * n) ≡ x = omega arith in
           ap (λ y. getD a y 0) (sym e) ∙ second-same (x - (h + 1) * n) (omega (arith, k)) ∙ ap (λ y. getD b y 0) e
 
-pub mark-all-settled : (width height h : ℕ) (bars : List Bar) (before after after′ : List ℕ) (r r′ : Bool) → MarkedAll width height h bars before after × (r ≡ anyOf crosses bars) → MarkedAll width height h bars before after′ × (r′ ≡ anyOf crosses bars) → (after ≡ after′) × (r ≡ r′)
+pub mark-all-settled : (width height h : ℕ) (bars : List Bar) (before after after′ : List ℕ) (r r′ : Bearing) → MarkedAll width height h bars before after × (r ≡ bearingOf h bars) → MarkedAll width height h bars before after′ × (r′ ≡ bearingOf h bars) → (after ≡ after′) × (r ≡ r′)
 mark-all-settled width height h bars before after after′ r r′ p q = (
   layers-same (width * height) h after after′
       (λ t v l i. p .0 .marked .stands t v l i ∙ sym (q .0 .marked .stands t v l i))

@@ -3,7 +3,7 @@
 use Prim.Native.Nat.{ℕ, _^_}
 use native.Mathlib.Omega.{arith}
 use mathlib.Core.Path.{_≡_, refl, sym, ap, _∙_}
-use mathlib.Core.Bool.{true, false}
+use mathlib.Core.Bool.{Bool, true, false}
 use mathlib.Core.List.{List, [], _∷_}
 use lib.ListN.{getD}
 use Rattle.lists.specs.Lists.{only, anyOf, sumTo}
@@ -13,8 +13,9 @@ use Rattle.routes.specs.Bars.{barsFor, barsCell, barsWay}
 use Rattle.routes.specs.declared.Bar.{Bar}
 use Rattle.routes.specs.declared.Bar.the-variants.{Free, Stay, Cross}
 use Rattle.records.specs.Columns.{barFrom, barAt, isBar, ownBars, chains, chainOf}
-use Rattle.marks.specs.Marks.{boundBy, standMark, barsMove, digit, digitsOf, crosses}
+use Rattle.marks.specs.Marks.{boundBy, standMark, barsMove, digit, digitsOf, crosses, bearsUntil, quietFrom, bearingOf}
 use Rattle.marks.specs.Post.{MarkedAll}
+use Rattle.marks.specs.declared.Bearing.{Bearing}
 
 -- ---- digit_of
 
@@ -44,6 +45,10 @@ of-carrier-0 bar = refl
 of-carrier-1 : boundBy 3 three 2 1 Free ≡ Free ∷ Stay 0 0 1 ∷ []
 unfolding boundBy barsFor chainOf chains ownBars isBar barAt barFrom only
 of-carrier-1 = refl
+
+of-carrier-2 : (bar : Bar) → boundBy 3 three 2 2 bar ≡ bar ∷ []
+unfolding boundBy barsFor chainOf chains ownBars isBar barAt barFrom only
+of-carrier-2 bar = refl
 
 -- the last step of a bar not marked
 pub last-step-left-out : (before after : List ℕ) → Left 0 Free before after → getD after 3 0 ≡ 0 → ⊥
@@ -88,6 +93,20 @@ second-plane-not-cleared before after m old wrong =
     omega arith
 
 -- a crossing that is said not to be there
-pub crossing-not-told : false ≡ anyOf crosses (boundBy 3 three 2 0 (Cross 0 1 0)) → ⊥
-unfolding anyOf crosses boundBy
-crossing-not-told e = not-both {b = true} refl (sym e)
+pub crossing-not-told : (until : ℕ) → record { crossing = false; until = until } ≡ bearingOf 1 (boundBy 3 three 2 0 (Cross 0 1 0)) → ⊥
+unfolding bearingOf anyOf crosses boundBy
+crossing-not-told until e = not-both {b = true} refl (sym (ap (λ (b : Bearing). b .crossing) e))
+
+-- the last step of a bar, step 1, told for the step after it
+pub last-step-told : (crossing : Bool) → record { crossing = crossing; until = 1 } ≡ bearingOf 1 (boundBy 3 three 2 0 Free) → ⊥
+unfolding bearingOf quietFrom bearsUntil
+last-step-told crossing e =
+    let z : _≡_ {A = ℕ} 1 2 = ap (λ (b : Bearing). b .until) e ∙ ap (quietFrom 1) (of-carrier-0 Free) in
+    omega arith
+
+-- the new bar left out of what is told: that of the chain alone, which has no bar for carrier 2
+pub new-bar-not-told : (crossing : Bool) → record { crossing = crossing; until = 0 } ≡ bearingOf 1 (boundBy 3 three 2 2 (Stay 0 0 0)) → ⊥
+unfolding bearingOf quietFrom bearsUntil
+new-bar-not-told crossing e =
+    let z : _≡_ {A = ℕ} 0 1 = ap (λ (b : Bearing). b .until) e ∙ ap (quietFrom 1) (of-carrier-2 (Stay 0 0 0)) in
+    omega arith

@@ -2,15 +2,14 @@
 // byte for each step and cell: in the first a cell that is barred at a step is marked, in the second the moves that are barred there.
 use hall::Grid;
 use routes::Bar;
-ghost use Prim.Native.Nat.{_^_, _≤_, _<_, min};
+ghost use Prim.Native.Nat.{_+_, _^_, min, max, _≤_, _<_};
 ghost use mathlib.Core.Bool.{_||_};
 ghost use mathlib.Core.List.{[], _∷_};
 ghost use mathlib.Core.Path.{_≡_};
-ghost use Rattle.lists.specs.Lists.{anyOf};
 ghost use Rattle.routes.specs.Bars.{barsFor};
 ghost use Rattle.routes.specs.declared.Bar.the-variants.{Stay, Cross};
 ghost use Rattle.records.specs.Columns.{ownBars, chainOf, Falls};
-ghost use Rattle.marks.specs.Marks.{boundBy, crosses};
+ghost use Rattle.marks.specs.Marks.{boundBy, bearingOf, bothOf};
 ghost use Rattle.marks.specs.Post.{Layered, MarkedMore, MarkedAll, BoundAbove, MoveTo, withDigit};
 
 // The mark of a cell that is barred at a step.
@@ -22,6 +21,12 @@ pub struct Bound {
     pub node: usize,
     pub carrier: usize,
     pub bar: Bar,
+}
+
+// What bars are like: whether one of them forbids a crossing, and a step from which on none forbids anything.
+pub struct Bearing {
+    pub crossing: bool,
+    pub until: usize,
 }
 
 // The lesser of two numbers.
@@ -36,6 +41,30 @@ fn either(a: bool, b: bool) -> bool
     ensures { λ r. ⌜ r ≡ (a || b) ⌝ }
 {
     if a { true } else { b }
+}
+
+// The greater of two numbers.
+fn greater(a: usize, b: usize) -> usize
+    ensures { λ r. ⌜ r ≡ max a b ⌝ }
+{
+    if a < b { b } else { a }
+}
+
+// What some bars and others are like together.
+fn together(a: Bearing, b: Bearing) -> Bearing
+    ensures { λ r. ⌜ r ≡ bothOf a b ⌝ }
+{
+    let crossing = either(a.crossing, b.crossing);
+    let until = greater(a.until, b.until);
+    Bearing { crossing, until }
+}
+
+// The step after one, or after the last.
+fn after(step: usize, h: usize) -> usize
+    requires { ⌜ h ≤ 63 ⌝ }
+    ensures { λ r. ⌜ r ≡ min step h + 1 ⌝ }
+{
+    lesser(step, h) + 1
 }
 
 // 'may not be on a cell from step a to step b'; steps past h are dropped, which changes nothing.
@@ -114,20 +143,31 @@ fn mark_cross(layers: &mut [u8], grid: Grid, h: usize, from: usize, to: usize, s
     layers[place] = with_digit(layers[place], m);
 }
 
-// One bar more, of either kind or none; and whether it forbids a crossing.
-fn mark_bar(layers: &mut [u8], grid: Grid, h: usize, bar: Bar) -> bool
+// One bar more, of either kind or none; and what it is like.
+fn mark_bar(layers: &mut [u8], grid: Grid, h: usize, bar: Bar) -> Bearing
     requires { ⌜ Layered (grid .width) (grid .height) h (now layers) ⌝ }
-    ensures { λ r. ⌜ MarkedMore (grid .width) (grid .height) h (bar ∷ []) (now (layers .entry)) (now (layers .exit)) × (r ≡ anyOf crosses (bar ∷ [])) ⌝ }
+    ensures { λ r. ⌜ MarkedMore (grid .width) (grid .height) h (bar ∷ []) (now (layers .entry)) (now (layers .exit)) × (r ≡ bearingOf h (bar ∷ [])) ⌝ }
 {
     match bar {
-        Bar::Free => false,
+        Bar::Free => Bearing {
+            crossing: false,
+            until: 0,
+        },
         Bar::Stay { cell, first, last } => {
             mark_stay(layers, grid, h, cell, first, last);
-            false
+            let until = after(last, h);
+            Bearing {
+                crossing: false,
+                until,
+            }
         }
         Bar::Cross { from, to, step } => {
             mark_cross(layers, grid, h, from, to, step);
-            true
+            let until = after(step, h);
+            Bearing {
+                crossing: true,
+                until,
+            }
         }
     }
 }
@@ -141,12 +181,15 @@ fn mark_own(
     capacity: usize,
     node: usize,
     carrier: usize,
-) -> bool
+) -> Bearing
     requires { ⌜ Layered (grid .width) (grid .height) h (now layers) × Falls capacity (now columns) node ⌝ }
-    ensures { λ r. ⌜ MarkedMore (grid .width) (grid .height) h (barsFor carrier (ownBars capacity (now (columns .entry)) node)) (now (layers .entry)) (now (layers .exit)) × (r ≡ anyOf crosses (barsFor carrier (ownBars capacity (now (columns .entry)) node))) ⌝ }
+    ensures { λ r. ⌜ MarkedMore (grid .width) (grid .height) h (barsFor carrier (ownBars capacity (now (columns .entry)) node)) (now (layers .entry)) (now (layers .exit)) × (r ≡ bearingOf h (barsFor carrier (ownBars capacity (now (columns .entry)) node))) ⌝ }
 {
     if records::entry_at(columns, capacity, records::CARRIER, node) != carrier {
-        return false;
+        return Bearing {
+            crossing: false,
+            until: 0,
+        };
     }
     let bar = records::bar_at(columns, capacity, node);
     mark_bar(layers, grid, h, bar)
@@ -178,25 +221,28 @@ fn mark_up(
     capacity: usize,
     node: usize,
     carrier: usize,
-) -> bool
+) -> Bearing
     requires { ⌜ Layered (grid .width) (grid .height) h (now layers) × Falls capacity (now columns) node ⌝ }
-    ensures { λ r. ⌜ MarkedMore (grid .width) (grid .height) h (barsFor carrier (chainOf capacity (now (columns .entry)) node)) (now (layers .entry)) (now (layers .exit)) × (r ≡ anyOf crosses (barsFor carrier (chainOf capacity (now (columns .entry)) node))) ⌝ }
+    ensures { λ r. ⌜ MarkedMore (grid .width) (grid .height) h (barsFor carrier (chainOf capacity (now (columns .entry)) node)) (now (layers .entry)) (now (layers .exit)) × (r ≡ bearingOf h (barsFor carrier (chainOf capacity (now (columns .entry)) node))) ⌝ }
 {
-    let mut crossing = false;
+    let mut bearing = Bearing {
+        crossing: false,
+        until: 0,
+    };
     let mut at = node;
     while at != 0 {
         let own = mark_own(layers, grid, h, columns, capacity, at, carrier);
-        crossing = either(crossing, own);
+        bearing = together(bearing, own);
         at = bound_above(columns, capacity, at, carrier);
     }
     let own = mark_own(layers, grid, h, columns, capacity, at, carrier);
-    either(crossing, own)
+    together(bearing, own)
 }
 
-// All bars that bind a carrier at a node, and a new one; and whether one of them forbids a crossing.
-pub fn mark_all(layers: &mut [u8], grid: Grid, h: usize, columns: &[u16], bound: Bound) -> bool
+// All bars that bind a carrier at a node, and a new one; and what they are like.
+pub fn mark_all(layers: &mut [u8], grid: Grid, h: usize, columns: &[u16], bound: Bound) -> Bearing
     requires { ⌜ Layered (grid .width) (grid .height) h (now layers) × Falls (bound .capacity) (now columns) (bound .node) ⌝ }
-    ensures { λ r. ⌜ MarkedAll (grid .width) (grid .height) h (boundBy (bound .capacity) (now (columns .entry)) (bound .node) (bound .carrier) (bound .bar)) (now (layers .entry)) (now (layers .exit)) × (r ≡ anyOf crosses (boundBy (bound .capacity) (now (columns .entry)) (bound .node) (bound .carrier) (bound .bar))) ⌝ }
+    ensures { λ r. ⌜ MarkedAll (grid .width) (grid .height) h (boundBy (bound .capacity) (now (columns .entry)) (bound .node) (bound .carrier) (bound .bar)) (now (layers .entry)) (now (layers .exit)) × (r ≡ bearingOf h (boundBy (bound .capacity) (now (columns .entry)) (bound .node) (bound .carrier) (bound .bar))) ⌝ }
 {
     let plane = (h + 1) * (grid.width * grid.height);
     lent::clear_bytes(layers, plane + plane);
@@ -211,5 +257,5 @@ pub fn mark_all(layers: &mut [u8], grid: Grid, h: usize, columns: &[u16], bound:
     );
     let bar = bound.bar;
     let new = mark_bar(layers, grid, h, bar);
-    either(new, above)
+    together(new, above)
 }

@@ -13,7 +13,7 @@ use Rattle.routes.specs.Route.{stepCost, cost}
 use Rattle.routes.specs.Bars.{barsFor, barsCell, barsWay, mayStand, mayTurn}
 use Rattle.routes.specs.Best.{moved, moves, outdone, preferred, better, bestOf, inFront, bestWay}
 use Rattle.records.specs.Columns.{barFrom, barAt, isBar, ownBars, chains, chainOf}
-use Rattle.layers.specs.Layers.{wayFrom, routeFrom, endOf, movesOf, movesTo, byteAt}
+use Rattle.layers.specs.Layers.{wayFrom, routeFrom, endOf, movesOf, movesTo, lateFor, byteAt}
 use Rattle.route_bench.specs.Answer.{RightArguments, hallOf, costTold, writtenRoute, barsAt, Answered}
 
 abbrev aisle : List ℕ
@@ -57,7 +57,7 @@ nothing-written layers answer a =
     let z : _≡_ {A = ℕ} 0 1 = ap (λ (l : List ℕ). getD l 1 0) (a .answers right .written ∙ ap (λ (o : Option (List ℕ)). writtenRoute o (replicate 3 0)) straight) in
     omega arith
 
-two-moves : byteAt (hallOf 3 1 aisle) (barsAt 1 (replicate 8 0) 0 0) 2 2 (endOf 2 0 route) 0 0 ≡ 2
+two-moves : byteAt (hallOf 3 1 aisle) (barsAt 1 (replicate 8 0) 0 0) 2 2 (lateFor (hallOf 3 1 aisle) (barsAt 1 (replicate 8 0) 0 0) 0 2 2) (endOf 2 0 route) 0 0 ≡ 2
 unfolding byteAt movesTo movesOf endOf wayFrom bestWay inFront bestOf better preferred outdone moves moved cost stepCost mayStand mayTurn barsFor chainOf chains ownBars isBar barAt barFrom isOpen reach reachFrom landing cellAt onGrid range only keep anyOf each
 two-moves = refl
 

@@ -25,8 +25,8 @@ mark-up-requires c κs = search needs
 mark-bar-requires : tie.Need-mark-bar-requires
 mark-bar-requires c κs = search needs
 
-either-requires : tie.Need-either-requires
-either-requires c κs = search needs
+together-requires : tie.Need-together-requires
+together-requires c κs = search needs
 
 same-length : tie.Need-same-length
 same-length c = search needs
@@ -38,7 +38,7 @@ returns c =
     let clear = c .before .before .before .before .before .before .before .before .before .before .before .clear-bytes in
     let mark-up = c .before .before .before .before .before .before .before .mark-up in
     let mark-bar = c .before .before .before .mark-bar in
-    all-told (a .grid .width) (a .grid .height) (a .h) (bound .capacity) (a .columns .now) (bound .node) (bound .carrier) (bound .bar) (a .layers .now) (clear .last .0) (mark-up .last .0) (mark-bar .last .0) (mark-up .result) (mark-bar .result) (c .either .result) (c .before .before .before .before .before .before .before .before .before .before .before .before .before .before .before .before .pre .0) (clear .ensures) (mark-up .ensures) (mark-bar .ensures) (c .either .ensures)
+    all-told (a .grid .width) (a .grid .height) (a .h) (bound .capacity) (a .columns .now) (bound .node) (bound .carrier) (bound .bar) (a .layers .now) (clear .last .0) (mark-up .last .0) (mark-bar .last .0) (mark-up .result) (mark-bar .result) (c .together .result) (c .before .before .before .before .before .before .before .before .before .before .before .before .before .before .before .before .pre .0) (clear .ensures) (mark-up .ensures) (mark-bar .ensures) (c .together .ensures)
 
 pub mark-all-spec : {M : Type 1} → statement M
 mark-all-spec =
@@ -51,6 +51,6 @@ mark-all-spec =
     clear-bytes-requires
     mark-up-requires
     mark-bar-requires
-    either-requires
+    together-requires
     same-length
     returns)

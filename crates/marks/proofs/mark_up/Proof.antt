@@ -11,10 +11,10 @@ use Rattle.marks.proofs.mark_up.Statement.{statement}
 use Rattle.marks.proofs.mark_up.Tie as tie
 
 abbrev Inv-loop : tie.InvT-loop
-Inv-loop layers₀ grid h columns capacity node carrier crossing₀ at₀ layers crossing at = Falls capacity columns at × (length layers ≡ length layers₀) × Left (grid .width) (grid .height) h (barsFor carrier (chainOf capacity columns node)) (barsFor carrier (chainOf capacity columns at)) layers₀ layers crossing
+Inv-loop layers₀ grid h columns capacity node carrier bearing₀ at₀ layers bearing at = Falls capacity columns at × (length layers ≡ length layers₀) × Left (grid .width) (grid .height) h (barsFor carrier (chainOf capacity columns node)) (barsFor carrier (chainOf capacity columns at)) layers₀ layers bearing
 
 abbrev μ-loop : tie.MeasureT-loop
-μ-loop layers₀ grid h columns capacity node carrier crossing₀ at₀ layers crossing at = at
+μ-loop layers₀ grid h columns capacity node carrier bearing₀ at₀ layers bearing at = at
 
 loop-holds : tie.Need-loop-holds Inv-loop μ-loop
 loop-holds c =
@@ -27,8 +27,8 @@ mark-own-requires c κs =
     let l = c .before .before .loop in
     (still-layered (a .grid .width) (a .grid .height) (a .h) (a .layers .now) (l .layers) (l .inv .1) (c .before .before .before .before .before .pre .0), l .inv .0)
 
-either-requires : tie.Need-either-requires Inv-loop μ-loop
-either-requires c κs = tt
+together-requires : tie.Need-together-requires Inv-loop μ-loop
+together-requires c κs = tt
 
 bound-above-requires : tie.Need-bound-above-requires Inv-loop μ-loop
 bound-above-requires c κs = (c .before .before .before .before .before .before .loop .inv .0, omega (arith, c .before .before .before .before .before .loop-test .taken))
@@ -42,8 +42,8 @@ loop-again c =
     let l = c .before .before .before .before .before .before .before .loop in
     let own = c .before .before .before .before .mark-own in
     let bound = c .bound-above in
-    let either = c .before .either in
-    (falls-above (a .capacity) (a .columns .now) (l .at) (bound .result) (bound .ensures .less) (l .inv .0), own .ensures .0 .kept .long ∙ l .inv .1, own-then (a .grid .width) (a .grid .height) (a .h) (a .capacity) (a .columns .now) (l .at) (a .carrier) (barsFor (a .carrier) (chainOf (a .capacity) (a .columns .now) (a .node))) (bound .result) (a .layers .now) (l .layers) (own .last .0) (l .crossing) (own .result) (either .result) (l .inv .2) (own .ensures) (bound .ensures) (either .ensures))
+    let together = c .before .together in
+    (falls-above (a .capacity) (a .columns .now) (l .at) (bound .result) (bound .ensures .less) (l .inv .0), own .ensures .0 .kept .long ∙ l .inv .1, own-then (a .grid .width) (a .grid .height) (a .h) (a .capacity) (a .columns .now) (l .at) (a .carrier) (barsFor (a .carrier) (chainOf (a .capacity) (a .columns .now) (a .node))) (bound .result) (a .layers .now) (l .layers) (own .last .0) (l .bearing) (own .result) (together .result) (l .inv .2) (own .ensures) (bound .ensures) (together .ensures))
 
 mark-own-requires-2 : tie.Need-mark-own-requires-2 Inv-loop μ-loop
 mark-own-requires-2 c κs =
@@ -51,8 +51,8 @@ mark-own-requires-2 c κs =
     let l = c .before .before .loop in
     (still-layered (a .grid .width) (a .grid .height) (a .h) (a .layers .now) (l .layers) (l .inv .1) (c .before .before .before .before .before .pre .0), l .inv .0)
 
-either-requires-2 : tie.Need-either-requires-2 Inv-loop μ-loop
-either-requires-2 c κs = tt
+together-requires-2 : tie.Need-together-requires-2 Inv-loop μ-loop
+together-requires-2 c κs = tt
 
 same-length : tie.Need-same-length Inv-loop μ-loop
 same-length c = c .before .before .before .mark-own2 .ensures .0 .kept .long ∙ c .before .before .before .before .before .before .loop .inv .1
@@ -62,8 +62,8 @@ returns c =
     let a = c .before .before .before .before .before .before .before .before .before .args in
     let l = c .before .before .before .before .before .before .loop in
     let own = c .before .before .before .mark-own2 in
-    let either = c .either2 in
-    root-last (a .grid .width) (a .grid .height) (a .h) (a .capacity) (a .columns .now) (l .at) (a .carrier) (barsFor (a .carrier) (chainOf (a .capacity) (a .columns .now) (a .node))) (a .layers .now) (l .layers) (own .last .0) (l .crossing) (own .result) (either .result) (l .inv .2) (c .before .before .before .before .before .loop-test .left) (own .ensures) (either .ensures)
+    let together = c .together2 in
+    root-last (a .grid .width) (a .grid .height) (a .h) (a .capacity) (a .columns .now) (l .at) (a .carrier) (barsFor (a .carrier) (chainOf (a .capacity) (a .columns .now) (a .node))) (a .layers .now) (l .layers) (own .last .0) (l .bearing) (own .result) (together .result) (l .inv .2) (c .before .before .before .before .before .loop-test .left) (own .ensures) (together .ensures)
 
 pub mark-up-spec : {M : Type 1} → statement M
 mark-up-spec =
@@ -73,11 +73,11 @@ mark-up-spec =
     μ-loop
     loop-holds
     mark-own-requires
-    either-requires
+    together-requires
     bound-above-requires
     loop-less
     loop-again
     mark-own-requires-2
-    either-requires-2
+    together-requires-2
     same-length
     returns)
