@@ -1,7 +1,7 @@
 -- The two passes fill the first plane with the best ways on: after the first, up to the step `late` where it begins, each byte is what is
--- found of the best way from there, its end, if that is in time; after the second, up to `last`, the moves of that way where it ends at `last`. By
--- induction on the steps left, since a layer is made of the layer one step later as the best way is of the best ways on. What is beyond
--- `late`, and the second plane, stays. Assumes nothing.
+-- found of the best way from there; after the second, up to `last`, the moves of that way where it ends at `last`. By induction on the
+-- steps left, since a layer is made of the layer one step later as the best way is of the best ways on. What is beyond `late`, and the
+-- second plane, stays. Assumes nothing.
 use Prim.Native.Nat.{ℕ, zero, suc, _+_, _-_, _*_, max, _≤_, _<_}
 use native.Mathlib.Nat.{zero-mul}
 use native.Mathlib.Decide.{decLe, ℕ-discrete}
@@ -16,6 +16,7 @@ use lib.ListN.{getD}
 use borrow.Author.Tests.{leb-true, le-leb, lt-leb, eq-eqb, ne-eqb}
 use Rattle.lists.specs.Lists.{anyOf}
 use Rattle.lists.proofs.Parts.{part-next}
+use Rattle.lent.specs.Lent.{SameFrom}
 use Rattle.hall.specs.Hall.{Hall, size, isOpen}
 use Rattle.routes.specs.Bars.{barsCell, mayStand, mayTurn}
 use Rattle.routes.specs.Best.{bestWay}
@@ -148,10 +149,10 @@ module _ (hall : Hall) (bars : List Bar) (goal : ℕ) where
 -- ---- all layers
 
 -- a pass leaves the second plane as it was
-pub second-kept : (hall : Hall) (moves : Bool) (goal plane last h : ℕ) (before after : List ℕ) → last ≤ h → Passed hall moves goal plane last before after → (t v : ℕ) → getD after ((h + 1) * size hall + t * size hall + v) 0 ≡ getD before ((h + 1) * size hall + t * size hall + v) 0
-second-kept hall moves goal plane last h before after early passed t v = passed .over ((h + 1) * size hall + t * size hall + v) (omega (arith, part-next last (h + 1) (size hall) (omega arith)))
+pub second-kept : (n last h : ℕ) (before after : List ℕ) → last ≤ h → SameFrom ((last + 1) * n) before after → (t v : ℕ) → getD after ((h + 1) * n + t * n + v) 0 ≡ getD before ((h + 1) * n + t * n + v) 0
+second-kept n last h before after early kept t v = kept .rest ((h + 1) * n + t * n + v) (omega (arith, part-next last (h + 1) n (omega arith)))
 
-module _ (hall : Hall) (bars : List Bar) (goal h late : ℕ) (marks ends : List ℕ) (short : h ≤ 63) (within : late ≤ h) (inside : goal < size hall) (rests : RestsFrom bars h late) (marked : Marked (hall .width) (hall .height) bars h marks) (passed : Passed hall false goal ((h + 1) * size hall) late marks ends) where
+module _ (hall : Hall) (bars : List Bar) (goal h late : ℕ) (marks ends : List ℕ) (short : h ≤ 63) (within : late ≤ h) (inside : goal < size hall) (rests : RestsFrom bars h late) (marked : Marked (hall .width) (hall .height) bars h marks) (passed : Passed hall false goal ((h + 1) * size hall) late marks ends) (kept : SameFrom ((late + 1) * size hall) marks ends) where
   -- a carrier goes on where it may stand and turn to where it goes on
   goes-step : (m t v : ℕ) → (not (anyOf (barsCell t v) bars) && (isOpen hall v && anyOf (goesOn (mayStand hall bars) (mayTurn hall bars) m (suc t)) (turnsBy (hall .width) (hall .height) v (digitsOf (hall .width) (hall .height) bars t v)))) ≡ goesOn (mayStand hall bars) (mayTurn hall bars) (suc m) t v
   unfolding goesOn mayStand
@@ -189,7 +190,7 @@ module _ (hall : Hall) (bars : List Bar) (goal h late : ℕ) (marks ends : List 
   ends-passed t v k l = end-left (late - t) (h - t) t v (omega arith) (omega arith) l
 
   marks-left : (t v : ℕ) → late < t → t ≤ h → v < size hall → getD ends (t * size hall + v) 0 ≡ standMark bars t v
-  marks-left t v k i l = passed .over (t * size hall + v) (omega (arith, part-next late t (size hall) k)) ∙ marked .stands t v i l
+  marks-left t v k i l = kept .rest (t * size hall + v) (omega (arith, part-next late t (size hall) k)) ∙ marked .stands t v i l
 
   -- beyond the moves, ends and marks
   rest-left : (last t v : ℕ) → (last ≤ h → t ≤ last → ⊥) → t ≤ h → v < size hall → getD ends (t * size hall + v) 0 ≡ byteAt hall bars goal h late last t v
@@ -197,7 +198,7 @@ module _ (hall : Hall) (bars : List Bar) (goal h late : ℕ) (marks ends : List 
 
   -- the second plane is as the marks have it
   digits-passed : (t v : ℕ) → t ≤ h → v < size hall → getD ends ((h + 1) * size hall + t * size hall + v) 0 ≡ digitsOf (hall .width) (hall .height) bars t v
-  digits-passed t v k l = second-kept hall false goal ((h + 1) * size hall) late h marks ends within passed t v ∙ marked .crossings t v k l
+  digits-passed t v k l = second-kept (size hall) late h marks ends within kept t v ∙ marked .crossings t v k l
 
   -- the first byte that is asked: what is found of the route
   pub start-found : (start : ℕ) → start < size hall → getD ends start 0 ≡ foundBy hall bars goal h late 0 start
@@ -207,7 +208,7 @@ module _ (hall : Hall) (bars : List Bar) (goal h late : ℕ) (marks ends : List 
   pub ends-filled : (last : ℕ) → h < last → FilledBy hall bars goal h late last ends
   ends-filled last k = record { levels = λ t v i l. rest-left last t v (λ j _. absurd (omega arith)) i l; crossings = digits-passed }
 
-  module _ (last : ℕ) (after : List ℕ) (early : last ≤ late) (again : Passed hall true goal ((h + 1) * size hall) last ends after) where
+  module _ (last : ℕ) (after : List ℕ) (early : last ≤ late) (again : Passed hall true goal ((h + 1) * size hall) last ends after) (still : SameFrom ((last + 1) * size hall) ends after) where
     -- which ways end at `last`
     marks-last : (m n t v : ℕ) → t + m ≡ late → t + n ≡ h → v < size hall → markFor true last (getD ends (t * size hall + v) 0) ≡ markFor true last (endOf goal t (way hall bars goal n t v))
     marks-last m n t v e k l = ap (markFor true last) (end-left m n t v e k l) ∙ found-mark late last (endOf goal t (way hall bars goal n t v)) (goesOn (mayStand hall bars) (mayTurn hall bars) m t v) (omega arith) early
@@ -230,9 +231,9 @@ module _ (hall : Hall) (bars : List Bar) (goal h late : ℕ) (marks ends : List 
     moves-filled =
         record {
           levels = λ t v i l. go t v i l (decLe t last);
-          crossings = λ t v i l. second-kept hall true goal ((h + 1) * size hall) last h ends after (omega arith) again t v ∙ digits-passed t v i l;
+          crossings = λ t v i l. second-kept (size hall) last h ends after (omega arith) still t v ∙ digits-passed t v i l;
         }
       where
         go : (t v : ℕ) → t ≤ h → v < size hall → Dec (t ≤ last) → getD after (t * size hall + v) 0 ≡ byteAt hall bars goal h late last t v
         go t v i l (yes k) = moves-passed t v k l ∙ sym (byte-moves hall bars goal h late last t v (omega arith) k)
-        go t v i l (no k) = again .over (t * size hall + v) (omega (arith, part-next last t (size hall) (omega (arith, k)))) ∙ rest-left last t v (λ _. k) i l
+        go t v i l (no k) = still .rest (t * size hall + v) (omega (arith, part-next last t (size hall) (omega (arith, k)))) ∙ rest-left last t v (λ _. k) i l

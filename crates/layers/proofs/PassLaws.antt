@@ -183,7 +183,6 @@ module _ (grid : Grid) (floor : List ℕ) (moves crossing : Bool) (goal plane la
   passing-ends inside room layers shuts slate from t p l =
       let kept = passing-kept layers shuts slate from t p in (
         λ bytes fl. record {
-          long = kept .long;
           arrived = λ v h.
               p .over (last * (grid .width * grid .height) + v) (omega arith)
               ∙ (a .layer .made v h
@@ -196,7 +195,6 @@ module _ (grid : Grid) (floor : List ℕ) (moves crossing : Bool) (goal plane la
               p .made bytes fl s v (omega arith) h i
               ∙ ap (λ x. rested moves goal s v (max (markFor moves last x) (leastOn (lentHall grid bytes) moves (λ w. getD layers ((s + 1) * (grid .width * grid .height) + w) 0) v (getD first (plane + s * (grid .width * grid .height) + v) 0)))) (first-under (s * (grid .width * grid .height) + v) (omega arith))
               ∙ ap (λ x. rested moves goal s v (max (markFor moves last (getD before (s * (grid .width * grid .height) + v) 0)) (leastOn (lentHall grid bytes) moves (λ w. getD layers ((s + 1) * (grid .width * grid .height) + w) 0) v x))) (first-over (plane + s * (grid .width * grid .height) + v) (omega arith));
-          over = kept .rest;
         },
         kept,
       )

@@ -37,7 +37,7 @@ use Rattle.layers.specs.declared.Sought.the-variants.{Nothing, Cost}
 use Rattle.layers.proofs.Levels.{Holds, Leads, leads-cheap, way-leads, end-most}
 use Rattle.layers.proofs.Soon.{soon-within, not-later, later-by}
 use Rattle.layers.proofs.Cut.{later, later-least, in-time, too-late, after-later, goes-on}
-use Rattle.layers.proofs.Filled.{filled-none, start-found, ends-filled, moves-filled}
+use Rattle.layers.proofs.Filled.{second-kept, filled-none, start-found, ends-filled, moves-filled}
 
 pub route-is-best : (job : Job) (i : ℕ) (bars : List Bar) → routeFrom (job .hall) bars (job .startOf i) (job .goalOf i) (job .horizon) ≡ bestRoute job i bars
 unfolding bestRoute
@@ -76,17 +76,17 @@ no-crossing width height bars h crossing marks e marked k t v l i = marked .cros
 -- a pass sets none
 pub crossing-kept : (n : ℕ) (crossing : Bool) (last h : ℕ) (before after : List ℕ) → last ≤ h → SameFrom ((last + 1) * n) before after → NoCrossing crossing n h before → NoCrossing crossing n h after
 unfolding NoCrossing
-crossing-kept n crossing last h before after early same clear k t v l i = same .rest ((h + 1) * n + t * n + v) (omega (arith, part-next last (h + 1) n (omega arith))) ∙ clear k t v l i
+crossing-kept n crossing last h before after early same clear k t v l i = second-kept n last h before after early same t v ∙ clear k t v l i
 
 -- ---- what an end tells
 
-told-none : (end : ℕ) → 254 ≤ end → endTold end ≡ Nothing
+pub told-none : (end : ℕ) → 254 ≤ end → endTold end ≡ Nothing
 unfolding endTold
 told-none end l = rw (endTold, le-leb 254 end l)
 
-told-cost : (end : ℕ) → end ≤ 63 → endTold end ≡ Cost end
+pub told-cost : (end : ℕ) → end < 254 → endTold end ≡ Cost end
 unfolding endTold
-told-cost end l = rw (endTold, lt-leb 254 end (omega arith))
+told-cost end l = rw (endTold, lt-leb 254 end l)
 
 -- the best route's end tells of it
 end-sought : (goal h v : ℕ) (o : Option (List ℕ)) → h ≤ 63 → Holds (Leads goal h v) o → endTold (endOf goal 0 o) ≡ soughtOf goal o
@@ -94,23 +94,15 @@ unfolding Holds endOf soughtOf
 end-sought goal h v none l k = told-none 255 (omega arith)
 end-sought goal h v (some r) l k = ap endTold (zero-add (cost goal r)) ∙ told-cost (cost goal r) (omega (arith, leads-cheap goal h v r k))
 
-pub end-told-none : (end : ℕ) → 254 ≤ end → Nothing ≡ endTold end
-end-told-none end l = sym (told-none end l)
-
-pub end-told-cost : (end : ℕ) → end < 254 → Cost end ≡ endTold end
-unfolding endTold
-end-told-cost end l = rw (endTold, lt-leb 254 end l)
-
 -- ---- both passes
 
 -- nothing beyond the planes changes
-pass-kept : (hall : Hall) (moves : Bool) (goal plane last h : ℕ) (before after : List ℕ) → last ≤ h → Passed hall moves goal plane last before after → SameFrom ((h + 1) * size hall + (h + 1) * size hall) before after
-pass-kept hall moves goal plane last h before after early passed =
-    record { long = passed .long; rest = λ x l. passed .over x (omega (arith, part-next last (h + 1) (size hall) (omega arith))) }
+pass-kept : (n last h : ℕ) (before after : List ℕ) → last ≤ h → SameFrom ((last + 1) * n) before after → SameFrom ((h + 1) * n + (h + 1) * n) before after
+pass-kept n last h before after early kept = record { long = kept .long; rest = λ x l. kept .rest x (omega (arith, part-next last (h + 1) n (omega arith))) }
 
-module _ (hall : Hall) (bars : List Bar) (start goal h late : ℕ) (marks ends : List ℕ) (short : h ≤ 63) (within : late ≤ h) (begins : start < size hall) (inside : goal < size hall) (marked : Marked (hall .width) (hall .height) bars h marks) (rests : RestsFrom bars h late) (passed : Passed hall false goal ((h + 1) * size hall) late marks ends) (end : ℕ) (read : end ≡ getD ends start 0) where
+module _ (hall : Hall) (bars : List Bar) (start goal h late : ℕ) (marks ends : List ℕ) (short : h ≤ 63) (within : late ≤ h) (begins : start < size hall) (inside : goal < size hall) (marked : Marked (hall .width) (hall .height) bars h marks) (rests : RestsFrom bars h late) (passed : Passed hall false goal ((h + 1) * size hall) late marks ends) (kept : SameFrom ((late + 1) * size hall) marks ends) (end : ℕ) (read : end ≡ getD ends start 0) where
   tells : end ≡ foundBy hall bars goal h late 0 start
-  tells = read ∙ start-found hall bars goal h late marks ends short within inside rests marked passed start begins
+  tells = read ∙ start-found hall bars goal h late marks ends short within inside rests marked passed kept start begins
 
   after-late : late < end → 254 ≤ end
   unfolding foundBy
@@ -121,18 +113,18 @@ module _ (hall : Hall) (bars : List Bar) (start goal h late : ℕ) (marks ends :
   sought-none l =
       record {
         found = tells;
-        filled = ends-filled hall bars goal h late marks ends short within inside rests marked passed end (omega (arith, after-late l));
-        kept = pass-kept hall false goal ((h + 1) * size hall) late h marks ends within passed;
+        filled = ends-filled hall bars goal h late marks ends short within inside rests marked passed kept end (omega (arith, after-late l));
+        kept = pass-kept (size hall) late h marks ends within kept;
       }
 
-  pub sought-cost : (after : List ℕ) → end ≤ late → Passed hall true goal ((h + 1) * size hall) end ends after → SoughtBy hall bars start goal h late marks after end
-  sought-cost after early again =
+  pub sought-cost : (after : List ℕ) → end ≤ late → Passed hall true goal ((h + 1) * size hall) end ends after → SameFrom ((end + 1) * size hall) ends after → SoughtBy hall bars start goal h late marks after end
+  sought-cost after early again still =
       record {
         found = tells;
-        filled = moves-filled hall bars goal h late marks ends short within inside rests marked passed end after early again;
+        filled = moves-filled hall bars goal h late marks ends short within inside rests marked passed kept end after early again still;
         kept =
-            same-then ((h + 1) * size hall + (h + 1) * size hall) marks ends after (pass-kept hall false goal ((h + 1) * size hall) late h marks ends within passed)
-            (pass-kept hall true goal ((h + 1) * size hall) end h ends after (omega arith) again);
+            same-then ((h + 1) * size hall + (h + 1) * size hall) marks ends after (pass-kept (size hall) late h marks ends within kept)
+            (pass-kept (size hall) end h ends after (omega arith) still);
       }
 
 -- ---- seeking

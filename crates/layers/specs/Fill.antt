@@ -124,12 +124,10 @@ leastOn hall moves next v digits =
       | false ↦ 255
     ]
 
--- a pass: the layers up to `last`, and no others, are made of their marks, each of the next; the digits stand in the second plane
+-- a pass: the layers up to `last` are made of their marks, each of the next; the digits stand in the second plane
 pub record Passed (hall : Hall) (moves : Bool) (goal plane last : ℕ) (before after : List ℕ) : Type 0 where
-  pub long : length after ≡ length before
   pub arrived : (v : ℕ) → v < size hall → getD after (last * size hall + v) 0 ≡ arrival goal (arrives moves last) (elsewhere moves) (λ w. shutIf (not (isOpen hall w))) v (markFor moves last (getD before (last * size hall + v) 0))
   pub made : (t v : ℕ) → t < last → v < size hall → getD after (t * size hall + v) 0 ≡ rested moves goal t v (max (markFor moves last (getD before (t * size hall + v) 0)) (leastOn hall moves (λ w. getD after ((t + 1) * size hall + w) 0) v (getD before (plane + t * size hall + v) 0)))
-  pub over : (x : ℕ) → (last + 1) * size hall ≤ x → getD after x 0 ≡ getD before x 0
 
 -- a pass over any hall whose floor this is
 abbrev pub PassedOn : Grid → List ℕ → Bool → ℕ → ℕ → ℕ → List ℕ → List ℕ → Type 0

@@ -28,7 +28,7 @@ returns c =
     let pre = c .before .before .before .before .before .before .before .pre in
     let fill = c .before .before .before .before .fill-back in
     let ends = fill .last .1 .1 .1 .1 .1 .1 .0 in
-    λ bytes bars floor marked rests. sought-none (lentHall (a .grid) bytes) bars (a .trip .start) (a .trip .goal) (a .trip .horizon) (a .late) (a .layers .now) ends (pre .0 .late) (pre .0 .within) (pre .2) (pre .0 .inside) marked rests (fill .ensures .0 bytes floor) (getD ends (a .trip .start) 0) refl (c .if1 .taken)
+    λ bytes bars floor marked rests. sought-none (lentHall (a .grid) bytes) bars (a .trip .start) (a .trip .goal) (a .trip .horizon) (a .late) (a .layers .now) ends (pre .0 .late) (pre .0 .within) (pre .2) (pre .0 .inside) marked rests (fill .ensures .0 bytes floor) (fill .ensures .1) (getD ends (a .trip .start) 0) refl (c .if1 .taken)
 
 cast-fill-back : tie.Need-cast-fill-back
 cast-fill-back c = record { fits = omega (arith, c .before .slice-known3 .given (c .before .before .before .before .before .before .before .args .trip .start) .fits) }
@@ -51,7 +51,7 @@ returns-2 c =
     let fill = c .before .before .before .before .before .before .before .before .fill-back in
     let ends = fill .last .1 .1 .1 .1 .1 .1 .0 in
     let again = c .before .before .fill-back2 in
-    λ bytes bars floor marked rests. sought-cost (lentHall (a .grid) bytes) bars (a .trip .start) (a .trip .goal) (a .trip .horizon) (a .late) (a .layers .now) ends (pre .0 .late) (pre .0 .within) (pre .2) (pre .0 .inside) marked rests (fill .ensures .0 bytes floor) (getD ends (a .trip .start) 0) refl (again .last .1 .1 .1 .1 .1 .1 .0) (omega (arith, c .before .before .before .before .if1 .left)) (again .ensures .0 bytes floor)
+    λ bytes bars floor marked rests. sought-cost (lentHall (a .grid) bytes) bars (a .trip .start) (a .trip .goal) (a .trip .horizon) (a .late) (a .layers .now) ends (pre .0 .late) (pre .0 .within) (pre .2) (pre .0 .inside) marked rests (fill .ensures .0 bytes floor) (fill .ensures .1) (getD ends (a .trip .start) 0) refl (again .last .1 .1 .1 .1 .1 .1 .0) (omega (arith, c .before .before .before .before .if1 .left)) (again .ensures .0 bytes floor) (again .ensures .1)
 
 pub seek-by-spec : {M : Type 1} → statement M
 seek-by-spec =
