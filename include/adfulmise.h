@@ -18,18 +18,18 @@
  *   hall, hall_len            the hall's bytes row by row from the top: 46 ('.') is an open cell, 35 ('#') a closed one;
  *                             width * height of them
  *   width, height             columns and rows, 1 to 16 each; the number of a cell is row * width + column
- *   carriers, carriers_count  a record for each carrier, its start cell and its goal cell, and how many records there are:
- *                             1 to 8. Carriers are numbered from 0, in the order of their records
- *   k                         how many steps each carrier may be late in all, 0 to 4
+ *   carriers, carriers_count  a record for each carrier, its start cell, its goal cell and its slip, and how many records there
+ *                             are: 1 to 8. Carriers are numbered from 0, in the order of their records. A carrier's slip is how
+ *                             many steps it may be late in all, 0 to 4
  *   h                         the horizon: routes have the steps 0 to h, h from 0 to 63
  *
  * The numbers given back; where several apply, the one that stands first here:
  *    0  a plan was found; the check passed; the book is good
  *    1  width or height is 0 or above 16
  *    2  the hall has not width * height bytes, or a byte is neither 46 nor 35
- *    3  k above 4, h above 63, or (planner only) n is 0 or above 1024
+ *    3  h above 63, or (planner only) n is 0 or above 1024
  *    4  no carrier, or more than 8
- *    5  a start or goal is outside the grid or closed: carrier is the first such
+ *    5  a start or goal is outside the grid or closed, or a slip is above 4: carrier is the first such
  *    6  two carriers share a start: carrier is the first that does, other the first behind it that has the same start
  *   16  two carriers share a goal: carrier is the first that does, other the first behind it that has the same goal
  *    7  a lent table (checks: the plan) is too short: (planner only) table is the first such in the order of the arguments; needed
@@ -38,7 +38,7 @@
  *    9  n records did not suffice: records is n
  *   11 to 15  the reader's, see adfulmise_read
  *   21  (route check) carrier's route is wrong at step
- *   22  (meeting check) carrier and other meet or exchange cells at step
+ *   22  (meeting check) carrier, the earlier of the two, and other meet or exchange cells at step
  */
 #ifndef ADFULMISE_H
 #define ADFULMISE_H
@@ -52,10 +52,11 @@ extern "C" {
 
 /*
  * The version of this header and of the archive beside it; as a number, major * 10000 + minor * 100 + patch. From 0.3.0 on layers is
- * twice as long as before: a caller that lends the old length is refused with 7.
+ * twice as long as before: a caller that lends the old length is refused with 7. From 0.4.0 on a carrier has its own slip: a record
+ * has three bytes for two, and no function takes k any more.
  */
-#define ADFULMISE_VERSION "0.3.0"
-#define ADFULMISE_VERSION_NUMBER 300
+#define ADFULMISE_VERSION "0.4.0"
+#define ADFULMISE_VERSION_NUMBER 400
 
 /*
  * The least length of each lent table in its own entries, for a job that is not refused: n records, m carriers, the horizon h, a hall
@@ -74,10 +75,11 @@ extern "C" {
 #define ADFULMISE_PLAN_STACK(n) ((size_t)10240 + (size_t)32 * (size_t)(n))
 #define ADFULMISE_OTHER_STACK ((size_t)1024)
 
-/* A carrier: the cell it starts from and the cell it has to reach. Two bytes, no more. */
+/* A carrier: the cell it starts from, the cell it has to reach, and how many steps it may be late in all. Three bytes, no more. */
 typedef struct adfulmise_carrier {
     uint8_t start;
     uint8_t goal;
+    uint8_t slip;
 } adfulmise_carrier;
 
 /* The places of what is told. Untold numbers are 0. */
@@ -114,9 +116,9 @@ enum {
 };
 
 /*
- * The plan of least sum of costs under which no delays within k bring two carriers together. Of the routes that the bars of the
- * search leave a carrier, it takes one of least cost, among these one of fewest moves, a stay being no move, and among these the
- * first in dictionary order of its cells.
+ * The plan of least sum of costs under which no delays within the carriers' slips bring two of them together. Of the routes that the
+ * bars of the search leave a carrier, it takes one of least cost, among these one of fewest moves, a stay being no move, and among
+ * these the first in dictionary order of its cells.
  *
  *   n        how many records the search may use, 1 to 1024
  *   columns  at least 8 * n entries
@@ -134,7 +136,7 @@ size_t adfulmise_plan(
     const uint8_t *hall, size_t hall_len,
     size_t width, size_t height,
     const adfulmise_carrier *carriers, size_t carriers_count,
-    size_t k, size_t h, size_t n,
+    size_t h, size_t n,
     uint16_t *columns, size_t columns_len,
     uint8_t *plans, size_t plans_len,
     uint8_t *layers, size_t layers_len,
@@ -154,27 +156,29 @@ size_t adfulmise_check_routes(
     const uint8_t *hall, size_t hall_len,
     size_t width, size_t height,
     const adfulmise_carrier *carriers, size_t carriers_count,
-    size_t k, size_t h,
+    size_t h,
     const uint8_t *plan, size_t plan_len,
     size_t *told, size_t told_len);
 
 /*
- * Do two carriers of a plan meet? 0, 1 to 7, 16, or 22: carrier at step and other at step + distance are on one cell or, where swap
- * is 1, the two exchange cells between step and step + 1. It compares any bytes as cells. Arguments as in adfulmise_check_routes.
+ * Do two carriers of a plan meet? 0, 1 to 7, 16, or 22: carrier at step and other at step + distance are on one cell, and distance is
+ * at most carrier's slip; or, where swap is 1, the two, both of slip 0, exchange cells between step and step + 1. Told is the one of
+ * least step, then of least distance, then of least carrier, then of least other; for distance 0 and for a swap carrier is the smaller
+ * number, and a swap comes after all meetings at its step. It compares any bytes as cells. Arguments as in adfulmise_check_routes.
  *
- * Gives back the number. A plan that passes both checks is safe under every pattern of at most k delays for each carrier.
+ * Gives back the number. A plan that passes both checks is safe under every pattern that delays each carrier by at most its own slip.
  */
 size_t adfulmise_check_meetings(
     const uint8_t *hall, size_t hall_len,
     size_t width, size_t height,
     const adfulmise_carrier *carriers, size_t carriers_count,
-    size_t k, size_t h,
+    size_t h,
     const uint8_t *plan, size_t plan_len,
     size_t *told, size_t told_len);
 
 /*
  * Where a book has the body of a kind: 1 the hall (width, height, hall bytes), 2 the carriers (their records, one after the
- * other), 3 the limits (k, h).
+ * other), 3 the limits (h).
  *
  *   place  its first two entries become the offset and the length of the body in the book, 0 and 0 with a refusal; with fewer it
  *          is left as it was

@@ -55,7 +55,7 @@ fn report_routes(sides: &[&dyn Side]) -> usize {
         differences += count_differences(family.name, &family.tasks, |task| {
             differing_routes(sides, task)
         });
-        print_row(&measured_routes(sides, &family));
+        print_row(&measured_routes(sides, &family), sides);
     }
     differences
 }
@@ -66,12 +66,22 @@ fn report_plans(sides: &[&dyn Side]) -> usize {
     print_head("planner", &report::facts_head(sides), sides);
     let mut differences = 0;
     for family in plan_families(&mut Random::new(SEED)) {
+        let asked = asked(sides, &family);
         differences += count_differences(&family.name, &family.tasks, |task| {
-            differing_plans(sides, task)
+            differing_plans(asked, task)
         });
-        print_row(&measured_plans(sides, &family));
+        print_row(&measured_plans(sides, asked, &family), sides);
     }
     differences
+}
+
+/// The sides that a family's jobs are put to.
+fn asked<'a, 'b>(sides: &'a [&'b dyn Side], family: &PlanFamily) -> &'a [&'b dyn Side] {
+    let first_earlier = sides.iter().position(|side| side.earlier());
+    match first_earlier {
+        Some(end) if !family.for_earlier => &sides[..end],
+        _ => sides,
+    }
 }
 
 /// How many inputs differ; each is named on standard error.
@@ -109,14 +119,14 @@ fn measured_routes<'a>(sides: &[&dyn Side], family: &'a RouteFamily) -> Row<'a> 
     }
 }
 
-fn measured_plans<'a>(sides: &[&dyn Side], family: &'a PlanFamily) -> Row<'a> {
+fn measured_plans<'a>(sides: &[&dyn Side], asked: &[&dyn Side], family: &'a PlanFamily) -> Row<'a> {
     let mut tables = Tables::new(&family.tasks[0], 0, 0);
-    let seconds = median_passes(sides, PLAN_ROUNDS, |side| {
+    let seconds = median_passes(asked, PLAN_ROUNDS, |side| {
         for task in &family.tasks {
             black_box(side.plan(black_box(task), &mut tables));
         }
     });
-    let counts: Vec<_> = sides.iter().map(|side| counted(*side, family)).collect();
+    let counts: Vec<_> = asked.iter().map(|side| counted(*side, family)).collect();
     let deepest = family.tasks.iter().map(deepest_chain).max().unwrap_or(0);
     Row {
         name: &family.name,

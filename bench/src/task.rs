@@ -35,12 +35,13 @@ impl RouteTask {
     }
 }
 
-/// A carrier's start cell and goal cell, as C has them too.
+/// A carrier's start cell, goal cell and slip, as C has them too.
 #[repr(C)]
 #[derive(Clone, Copy, Debug)]
 pub struct Carrier {
     pub start: u8,
     pub goal: u8,
+    pub slip: u8,
 }
 
 /// A job: what a planner call is given, but for the lent tables.
@@ -50,7 +51,6 @@ pub struct PlanTask {
     pub width: usize,
     pub height: usize,
     pub carriers: Vec<Carrier>,
-    pub k: usize,
     pub h: usize,
     pub n: usize,
 }

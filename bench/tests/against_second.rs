@@ -23,9 +23,8 @@ fn task(job: &Job, n: usize) -> PlanTask {
         width: job.width,
         height: job.height,
         carriers: (job.carriers.iter())
-            .map(|&Carrier { start, goal }| task::Carrier { start, goal })
+            .map(|&Carrier { start, goal, slip }| task::Carrier { start, goal, slip })
             .collect(),
-        k: job.k,
         h: job.horizon,
         n,
     }
@@ -137,7 +136,7 @@ fn under(job: &Job, bars: &[CarrierBar]) -> RouteTask {
         let bar = translated(own.bar);
         write_record(&mut columns, CAPACITY, parent + 1, parent, own.carrier, bar);
     }
-    let Carrier { start, goal } = job.carriers[0];
+    let Carrier { start, goal, .. } = job.carriers[0];
     RouteTask {
         hall: job.hall.clone(),
         width: job.width,

@@ -23,7 +23,7 @@ void *malloc(size_t size);
 void free(void *memory);
 int strcmp(const char *one, const char *two);
 
-enum { NUMBERS = 5, PIECES = 7 };
+enum { NUMBERS = 4, PIECES = 7 };
 enum { PLAN, CHECK_ROUTES, CHECK_MEETINGS, READ, FUNCTIONS };
 
 struct call {
@@ -94,14 +94,14 @@ static const adfulmise_carrier *carriers_in(const struct piece *piece) { return 
 
 static uint64_t plan(const uint64_t *numbers, const struct piece *p) {
     return adfulmise_plan(p[0].start, p[0].entries, numbers[0], numbers[1], carriers_in(&p[1]), p[1].entries, numbers[2],
-                          numbers[3], numbers[4], (uint16_t *)p[2].start, p[2].entries, p[3].start, p[3].entries, p[4].start,
-                          p[4].entries, p[5].start, p[5].entries, numbers_in(&p[6]), p[6].entries);
+                          numbers[3], (uint16_t *)p[2].start, p[2].entries, p[3].start, p[3].entries, p[4].start, p[4].entries,
+                          p[5].start, p[5].entries, numbers_in(&p[6]), p[6].entries);
 }
 
 static uint64_t check(uint64_t function, const uint64_t *numbers, const struct piece *p) {
     return (function == CHECK_ROUTES ? adfulmise_check_routes : adfulmise_check_meetings)(
-        p[0].start, p[0].entries, numbers[0], numbers[1], carriers_in(&p[1]), p[1].entries, numbers[2], numbers[3], p[2].start,
-        p[2].entries, numbers_in(&p[3]), p[3].entries);
+        p[0].start, p[0].entries, numbers[0], numbers[1], carriers_in(&p[1]), p[1].entries, numbers[2], p[2].start, p[2].entries,
+        numbers_in(&p[3]), p[3].entries);
 }
 
 static uint64_t answer(const struct call *call, const struct piece *p) {

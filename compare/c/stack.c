@@ -3,9 +3,9 @@
  *
  * Each call is made on memory of exactly the stated size, right above a page without access: one byte more would end this program.
  * The memory is filled with one byte first, so that what was used can be told. The jobs are the shallowest there are; one that uses
- * up all records; the one with the deepest chain that a search over many thousand jobs in full rooms has found; and the one with the
- * most stack that such a search had found before P2, which left its tree as deep. A chain of 1,023, deeper than any of them, is lent
- * to the best route alone, which is the planner's own engine (libroute_bench.a).
+ * up all records; the one with the deepest chain that a search over many thousand jobs in full rooms, of one slip for all, has found;
+ * and the one with the most stack that such a search had found before P2, which left its tree as deep. A chain of 1,023, deeper than
+ * any of them, is lent to the best route alone, which is the planner's own engine (libroute_bench.a).
  */
 #include "adfulmise.h"
 
@@ -31,21 +31,22 @@ struct job {
     const char *hall;
     size_t width, height;
     adfulmise_carrier carriers[8];
-    size_t count, k, h, n, number, records;
+    size_t count, h, n, number, records;
 };
 
 static const struct job jobs[] = {
-    {"refused", "", 0, 0, {{0, 0}}, 0, 0, 0, 1, 1, 0},
-    {"one cell", ".", 1, 1, {{0, 0}}, 1, 0, 0, 1, 0, 1},
-    {"two that cross", ".........", 3, 3, {{3, 5}, {1, 7}}, 2, 0, 4, 128, 0, 3},
-    {"records used up, a chain of 217", "......", 2, 3, {{0, 3}, {4, 1}, {1, 2}, {3, 4}, {2, 5}, {5, 0}}, 6, 1, 63, MOST, 9, MOST},
-    {"a chain of 492", "....", 2, 2, {{0, 3}, {1, 2}, {2, 1}, {3, 0}}, 4, 1, 63, MOST, 8, 493},
-    {"a chain of 126, 123 of other carriers", "...#", 2, 2, {{1, 2}, {0, 0}, {2, 1}}, 3, 0, 63, MOST, 8, 976},
+    {"refused", "", 0, 0, {{0, 0, 0}}, 0, 0, 1, 1, 0},
+    {"one cell", ".", 1, 1, {{0, 0, 0}}, 1, 0, 1, 0, 1},
+    {"two that cross", ".........", 3, 3, {{3, 5, 0}, {1, 7, 0}}, 2, 4, 128, 0, 3},
+    {"records used up, a chain of 217", "......", 2, 3,
+     {{0, 3, 1}, {4, 1, 1}, {1, 2, 1}, {3, 4, 1}, {2, 5, 1}, {5, 0, 1}}, 6, 63, MOST, 9, MOST},
+    {"a chain of 492", "....", 2, 2, {{0, 3, 1}, {1, 2, 1}, {2, 1, 1}, {3, 0, 1}}, 4, 63, MOST, 8, 493},
+    {"a chain of 126, 123 of other carriers", "...#", 2, 2, {{1, 2, 0}, {0, 0, 0}, {2, 1, 0}}, 3, 63, MOST, 8, 976},
 };
 
-/* The book that document 01 prints. */
-static const uint8_t book[] = {3,  1,  16, 0,  11, 0,  2,  27, 0,  4,  0,  3, 31, 0, 2, 0, 3,
-                               3,  46, 46, 46, 46, 46, 46, 46, 46, 46, 3,  5, 1,  7, 0, 4};
+/* The book that document 01 prints, as P3 rewrites it. */
+static const uint8_t book[] = {3,  1,  16, 0,  11, 0,  2,  27, 0,  6,  0,  3, 33, 0, 1, 0, 3,
+                               3,  46, 46, 46, 46, 46, 46, 46, 46, 46, 3,  5, 0,  1, 7, 0, 4};
 
 static const struct job *job;
 static uint16_t columns[ADFULMISE_COLUMNS_LENGTH(MOST)];
@@ -56,7 +57,7 @@ static size_t told[ADFULMISE_FAULT];
 static size_t number;
 
 #define LENT(array) (array), sizeof(array) / sizeof(array)[0]
-#define JOB (const uint8_t *)job->hall, job->width * job->height, job->width, job->height, job->carriers, job->count, job->k, job->h
+#define JOB (const uint8_t *)job->hall, job->width * job->height, job->width, job->height, job->carriers, job->count, job->h
 
 static void call_plan(void) {
     number = adfulmise_plan(JOB, job->n, LENT(columns), LENT(plans), LENT(layers), LENT(output), LENT(told));

@@ -57,7 +57,8 @@ fn of_every_kind(random: &mut Random) -> Drawn {
             let n = random.pick(&[2, 8, 32, 128, 256]);
             (generate::needing_about(random, n), n)
         }
-        65..=79 => (damage::refused_job(random), any_capacity(random)),
+        65..=76 => (damage::refused_job(random), any_capacity(random)),
+        77..=79 => (damage::wrong_carriers_job(random), any_capacity(random)),
         80..=84 => (damage::sharing_job(random), any_capacity(random)),
         85..=92 => (generate::job(random), random.pick(&WRONG_CAPACITIES)),
         _ => {
@@ -93,14 +94,13 @@ fn any_capacity(random: &mut Random) -> usize {
 fn beyond_bytes(random: &mut Random, mut job: Job) -> Job {
     let above_a_byte = 256 + random.below(16);
     let huge = random.pick(&[above_a_byte, 1 << 16, 1 << 32, 1 << 63, usize::MAX]);
-    match random.below(5) {
+    match random.below(4) {
         0 => job.width = huge,
         1 => job.height = huge,
-        2 => job.k = huge,
-        3 => job.horizon = huge,
+        2 => job.horizon = huge,
         _ => {
             let many = 256 + job.carriers.len();
-            job.carriers.resize(many, Carrier { start: 0, goal: 0 });
+            job.carriers.resize_with(many, || any_carrier(random));
         }
     }
     job
@@ -110,7 +110,8 @@ fn rough(random: &mut Random) -> Drawn {
     let mut job = match random.below(100) {
         0..=1 => generate::job(random),
         2..=19 => any_numbers(random),
-        20..=24 => damage::sharing_job(random),
+        20..=22 => damage::sharing_job(random),
+        23..=24 => damage::wrong_carriers_job(random),
         25..=59 => generate::small_waiting(random),
         _ => generate::small(random),
     };
@@ -137,17 +138,23 @@ fn any_numbers(random: &mut Random) -> Job {
         let length = random.below(300);
         any_bytes(random, length)
     };
-    let carriers = (0..random.below(11)).map(|_| Carrier {
-        start: random.byte(),
-        goal: random.byte(),
-    });
+    let carriers = (0..random.below(11)).map(|_| any_carrier(random));
     Job {
         width,
         height,
         hall,
         carriers: carriers.collect(),
-        k: random.below(6),
         horizon: random.below(66),
+    }
+}
+
+/// Any bytes as start and goal, and as slip a number around its bound or, now and then, any byte.
+fn any_carrier(random: &mut Random) -> Carrier {
+    let any_slip = random.byte();
+    Carrier {
+        start: random.byte(),
+        goal: random.byte(),
+        slip: random.pick(&[0, 1, 2, 3, 4, 5, any_slip]),
     }
 }
 

@@ -12,7 +12,7 @@ use crate::process::number_bytes;
 
 /// How many bytes a carrier's record and an entry of the record columns and of
 /// a told array have.
-const CARRIER: usize = 2;
+const CARRIER: usize = 3;
 const COLUMN: usize = 2;
 const TOLD: usize = 8;
 
@@ -29,13 +29,13 @@ pub fn lent_bytes(name: &'static str, bytes: &[u8]) -> Piece {
     }
 }
 
-/// The hall, and a record of start and goal for each carrier.
+/// The hall, and a record of start, goal and slip for each carrier.
 pub fn lent_job(job: &Job) -> Vec<Piece> {
-    let ends = job.carriers.iter().flat_map(|c| [c.start, c.goal]);
+    let records = job.carriers.iter().flat_map(|c| [c.start, c.goal, c.slip]);
     let carriers = Piece {
         name: "carriers",
         entry_size: CARRIER,
-        bytes: ends.collect(),
+        bytes: records.collect(),
     };
     vec![lent_bytes("hall", &job.hall), carriers]
 }
@@ -178,6 +178,15 @@ mod tests {
         let (named, behind) = layers.split_at(least[2]);
         assert!(named.iter().all(|byte| *byte == 0));
         assert_eq!(behind, [7, 7]);
+    }
+
+    #[test]
+    fn a_carrier_is_an_entry_of_start_goal_and_slip() {
+        let job = generate::small(&mut Random::new(25));
+        let carriers = &lent_job(&job)[1];
+        assert_eq!(carriers.entries(), job.carriers.len());
+        let first = job.carriers[0];
+        assert_eq!(carriers.bytes[..3], [first.start, first.goal, first.slip]);
     }
 
     #[test]

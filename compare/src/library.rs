@@ -46,7 +46,7 @@ pub struct Reply {
     pub pieces: Vec<Piece>,
 }
 
-const NUMBERS: usize = 5;
+const NUMBERS: usize = 4;
 const PIECES: usize = 7;
 
 pub fn call(server: &mut Process, call: Call) -> io::Result<Reply> {

@@ -30,7 +30,7 @@ impl Comparer {
     pub fn plan(&mut self, job: &Job, n: usize, tables: Tables) -> Trial<PlanAnswer> {
         let answer = planner::plan_lent(job, n, tables.lengths());
         let values = answer.told();
-        let numbers = vec![job.width, job.height, job.k, job.horizon, n];
+        let numbers = vec![job.width, job.height, job.horizon, n];
         let mut call = self.drawn_call(Function::Plan, numbers, Some(job));
         let mut pieces = call.pieces.clone();
         pieces.extend(tables.after(&answer, job, n));
@@ -61,7 +61,7 @@ impl Comparer {
         answer: CheckAnswer,
     ) -> Trial<usize> {
         let values = answer.told();
-        let numbers = vec![job.width, job.height, job.k, job.horizon];
+        let numbers = vec![job.width, job.height, job.horizon];
         let mut call = self.drawn_call(function, numbers, Some(job));
         call.pieces.push(lent_bytes("plan", plan));
         let pieces = call.pieces.clone();

@@ -12,10 +12,10 @@
 
 int printf(const char *format, ...); /* not from stdio.h, which the kit's compiler has not */
 
-enum { WIDTH = 3, HEIGHT = 3, CARRIERS = 2, K = 0, H = 4, N = 128, STEPS = H + 1 };
+enum { WIDTH = 3, HEIGHT = 3, CARRIERS = 2, H = 4, N = 128, STEPS = H + 1 };
 
 static const uint8_t hall[WIDTH * HEIGHT] = {'.', '.', '.', '.', '.', '.', '.', '.', '.'};
-static const adfulmise_carrier carriers[CARRIERS] = {{3, 5}, {1, 7}}; /* start and goal of each */
+static const adfulmise_carrier carriers[CARRIERS] = {{3, 5, 0}, {1, 7, 0}}; /* start, goal and slip of each */
 
 /* The tables that are lent: static, so that the stack need not hold them. */
 static uint16_t columns[ADFULMISE_COLUMNS_LENGTH(N)];
@@ -25,7 +25,7 @@ static uint8_t plan[ADFULMISE_OUTPUT_LENGTH(CARRIERS, H)];
 
 #define LENGTH(array) (sizeof(array) / sizeof(array)[0])
 #define LENT(array) (array), LENGTH(array)
-#define JOB LENT(hall), WIDTH, HEIGHT, LENT(carriers), K, H
+#define JOB LENT(hall), WIDTH, HEIGHT, LENT(carriers), H
 
 int main(void) {
     size_t told[ADFULMISE_TOLD], fault[ADFULMISE_FAULT];

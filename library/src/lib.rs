@@ -11,8 +11,10 @@
 //!     hall: b".........",
 //!     width: 3,
 //!     height: 3,
-//!     carriers: &[Carrier { start: 3, goal: 5 }, Carrier { start: 1, goal: 7 }],
-//!     k: 0,
+//!     carriers: &[
+//!         Carrier { start: 3, goal: 5, slip: 0 },
+//!         Carrier { start: 1, goal: 7, slip: 0 },
+//!     ],
 //!     h: 4,
 //! };
 //! let mut tables = Tables::for_records(128);
@@ -40,7 +42,6 @@ mod linked {
             height: usize,
             carriers: *const Carrier,
             carriers_count: usize,
-            k: usize,
             h: usize,
             n: usize,
             columns: *mut u16,
@@ -62,7 +63,6 @@ mod linked {
             height: usize,
             carriers: *const Carrier,
             carriers_count: usize,
-            k: usize,
             h: usize,
             plan: *const u8,
             plan_len: usize,
@@ -77,7 +77,6 @@ mod linked {
             height: usize,
             carriers: *const Carrier,
             carriers_count: usize,
-            k: usize,
             h: usize,
             plan: *const u8,
             plan_len: usize,
@@ -95,22 +94,22 @@ mod linked {
     }
 }
 
-/// A carrier's start cell and goal cell: `struct adfulmise_carrier` of the header.
+/// A carrier's start cell, goal cell and slip, which is how many steps it may be late in all: `struct adfulmise_carrier` of the header.
 #[repr(C)]
 #[derive(Clone, Copy, Debug, PartialEq, Eq)]
 pub struct Carrier {
     pub start: u8,
     pub goal: u8,
+    pub slip: u8,
 }
 
-/// A hall, the carriers, the delay bound k and the horizon h. A number out of its range is refused with an answer.
+/// A hall, the carriers and the horizon h. A number out of its range is refused with an answer.
 #[derive(Clone, Copy, Debug)]
 pub struct Job<'a> {
     pub hall: &'a [u8],
     pub width: usize,
     pub height: usize,
     pub carriers: &'a [Carrier],
-    pub k: usize,
     pub h: usize,
 }
 
@@ -202,7 +201,6 @@ pub fn plan(job: &Job, n: usize, tables: &mut Tables) -> Told {
             job.height,
             job.carriers.as_ptr(),
             job.carriers.len(),
-            job.k,
             job.h,
             n,
             tables.columns.as_mut_ptr(),
@@ -238,7 +236,6 @@ type Check = unsafe extern "C" fn(
     *const Carrier,
     usize,
     usize,
-    usize,
     *const u8,
     usize,
     *mut usize,
@@ -256,7 +253,6 @@ fn checked(check: Check, job: &Job, plan: &[u8]) -> Fault {
             job.height,
             job.carriers.as_ptr(),
             job.carriers.len(),
-            job.k,
             job.h,
             plan.as_ptr(),
             plan.len(),
@@ -281,7 +277,8 @@ pub fn check_routes(job: &Job, plan: &[u8]) -> Fault {
     checked(linked::adfulmise_check_routes, job, plan)
 }
 
-/// Do two carriers of a plan meet, delays within k included? Number 0, 1 to 7, 16, or 22 with the meeting or the swap.
+/// Do two carriers of a plan meet, delays within their slips included? Number 0, 1 to 7, 16, or 22 with the meeting or the swap, the
+/// earlier carrier first.
 pub fn check_meetings(job: &Job, plan: &[u8]) -> Fault {
     checked(linked::adfulmise_check_meetings, job, plan)
 }

@@ -18,8 +18,9 @@ pub enum BookRefusal {
     Kinds = 12,
     /// 13: "bodies don't follow one another exactly to the end".
     Bodies = 13,
-    /// 14: "hall body under 2 bytes, carriers body of odd length, or limits
-    /// body not 2 bytes".
+    /// 14: "hall body under 2 bytes"; and, as it "reads the new lengths" of P3,
+    /// a carriers body that hasn't "3 bytes for each carrier", or a limits body
+    /// that isn't 1 byte, "only H".
     Lengths = 14,
     /// 15: "a kind other than 1 to 3", "after 11 to 14".
     NoSuchKind = 15,
@@ -31,6 +32,9 @@ impl BookRefusal {
         self as u8
     }
 }
+
+/// "The carriers body has 3 bytes for each carrier" (P3).
+pub const CARRIER: usize = 3;
 
 /// A book that was found in order: its three bodies, parts of the lent bytes.
 #[derive(Clone, Copy, Debug, PartialEq, Eq)]
@@ -71,7 +75,7 @@ impl<'a> Book<'a> {
             return Err(BookRefusal::Kinds);
         }
         let [hall, carriers, limits] = cut(bodies, &entries).ok_or(BookRefusal::Bodies)?;
-        if hall.len() < 2 || !carriers.len().is_multiple_of(2) || limits.len() != 2 {
+        if hall.len() < 2 || !carriers.len().is_multiple_of(CARRIER) || limits.len() != 1 {
             return Err(BookRefusal::Lengths);
         }
         Ok(Book {
@@ -93,15 +97,14 @@ impl<'a> Book<'a> {
     }
 
     /// "Kind 1: width, height, hall bytes. Kind 2: start and goal for each
-    /// carrier. Kind 3: k, H."
+    /// carrier", and behind them its slip; kind 3: "only H" (P3).
     pub fn job(&self) -> Job {
         Job {
             width: usize::from(self.hall[0]),
             height: usize::from(self.hall[1]),
             hall: self.hall[2..].to_vec(),
-            carriers: self.carriers.chunks(2).map(carrier).collect(),
-            k: usize::from(self.limits[0]),
-            horizon: usize::from(self.limits[1]),
+            carriers: self.carriers.chunks(CARRIER).map(carrier).collect(),
+            horizon: usize::from(self.limits[0]),
         }
     }
 }
@@ -122,10 +125,11 @@ fn cut<'a>(bodies: &'a [u8], entries: &[Entry]) -> Option<[&'a [u8]; ENTRIES]> {
     rest.is_empty().then_some(parts)
 }
 
-fn carrier(pair: &[u8]) -> Carrier {
+fn carrier(record: &[u8]) -> Carrier {
     Carrier {
-        start: pair[0],
-        goal: pair[1],
+        start: record[0],
+        goal: record[1],
+        slip: record[2],
     }
 }
 
@@ -143,11 +147,11 @@ impl Bodies {
         let byte = |number: usize| u8::try_from(number).expect("a number of a book is a byte");
         let mut hall = vec![byte(job.width), byte(job.height)];
         hall.extend(&job.hall);
-        let ends = job.carriers.iter().flat_map(|c| [c.start, c.goal]);
+        let records = job.carriers.iter().flat_map(|c| [c.start, c.goal, c.slip]);
         Bodies {
             hall,
-            carriers: ends.collect(),
-            limits: vec![byte(job.k), byte(job.horizon)],
+            carriers: records.collect(),
+            limits: vec![byte(job.horizon)],
         }
     }
 
@@ -176,11 +180,11 @@ impl Bodies {
 mod tests {
     use super::*;
 
-    /// The book printed in document 01.
+    /// "the book printed in document 01 is rewritten to match" (P3).
     fn printed() -> Vec<u8> {
-        let mut book = vec![3, 1, 16, 0, 11, 0, 2, 27, 0, 4, 0, 3, 31, 0, 2, 0];
+        let mut book = vec![3, 1, 16, 0, 11, 0, 2, 27, 0, 6, 0, 3, 33, 0, 1, 0];
         book.extend([3, 3, 46, 46, 46, 46, 46, 46, 46, 46, 46]);
-        book.extend([3, 5, 1, 7, 0, 4]);
+        book.extend([3, 5, 0, 1, 7, 0, 4]);
         book
     }
 
@@ -199,11 +203,22 @@ mod tests {
         let bytes = printed();
         let book = Book::read(&bytes).expect("in order");
         assert_eq!(book.body(1), Ok(&bytes[16..27]));
-        assert_eq!(book.body(2), Ok(&bytes[27..31]));
-        assert_eq!(book.body(3), Ok(&bytes[31..33]));
+        assert_eq!(book.body(2), Ok(&bytes[27..33]));
+        assert_eq!(book.body(3), Ok(&bytes[33..34]));
         assert_eq!(book.body(0), Err(BookRefusal::NoSuchKind));
         assert_eq!(book.body(4), Err(BookRefusal::NoSuchKind));
         assert_eq!(Bodies::of(&book.job()).bind(), bytes);
+    }
+
+    #[test]
+    fn start_goal_and_slip_in_that_order() {
+        let mut bytes = printed();
+        bytes[27..33].copy_from_slice(&[3, 5, 4, 1, 7, 200]);
+        let job = Book::read(&bytes).expect("in order").job();
+        let carrier = |start, goal, slip| Carrier { start, goal, slip };
+        assert_eq!(job.carriers, [carrier(3, 5, 4), carrier(1, 7, 200)]);
+        assert_eq!(job.horizon, 4);
+        assert_eq!(Bodies::of(&job).bind(), bytes);
     }
 
     #[test]
@@ -218,7 +233,7 @@ mod tests {
             assert_eq!(refused(&changed(at, 77)), Some(13), "byte {at}");
         }
         assert_eq!(refused(&printed()[..16]), Some(13));
-        assert_eq!(refused(&printed()[..32]), Some(13));
+        assert_eq!(refused(&printed()[..33]), Some(13));
         let mut longer = printed();
         longer.push(0);
         assert_eq!(refused(&longer), Some(13));
@@ -228,8 +243,8 @@ mod tests {
     fn lengths() {
         let lawful = Bodies {
             hall: vec![1, 1, 46],
-            carriers: vec![0, 0],
-            limits: vec![0, 0],
+            carriers: vec![0, 0, 0],
+            limits: vec![0],
         };
         assert_eq!(refused(&lawful.bind()), None);
         for hall in [vec![], vec![1]] {
@@ -239,12 +254,15 @@ mod tests {
             };
             assert_eq!(refused(&bodies.bind()), Some(14));
         }
-        let odd = Bodies {
-            carriers: vec![0],
-            ..lawful.clone()
-        };
-        assert_eq!(refused(&odd.bind()), Some(14));
-        for limits in [vec![], vec![0], vec![0, 0, 0]] {
+        for length in 0..13 {
+            let bodies = Bodies {
+                carriers: vec![0; length],
+                ..lawful.clone()
+            };
+            let wanted = (length % 3 > 0).then_some(14);
+            assert_eq!(refused(&bodies.bind()), wanted, "{length}");
+        }
+        for limits in [vec![], vec![0, 0], vec![0, 0, 0]] {
             let bodies = Bodies {
                 limits,
                 ..lawful.clone()

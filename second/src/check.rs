@@ -7,8 +7,8 @@ use crate::meeting::{self, Kind, Meeting};
 
 /// What a check gives back. "Untold numbers are 0": a refusal tells what
 /// checks 5, 6 and 16 tell, 7 the length that the plan needed (`needed`), 21
-/// tells carrier and step, 22 tells i (`carrier`), j (`other`), t (`step`), D
-/// (`distance`) and whether it is a swap.
+/// tells carrier and step, 22 tells the earlier carrier (`carrier`), the other, the
+/// smaller step e (`step`), the distance and whether it is a swap.
 #[derive(Clone, Copy, Debug, Default, PartialEq, Eq)]
 pub struct CheckAnswer {
     pub number: u8,
@@ -64,7 +64,8 @@ pub fn route_check(job: &Job, plan: &[u8]) -> CheckAnswer {
 pub fn meeting_check(job: &Job, plan: &[u8]) -> CheckAnswer {
     match routes_of(job, plan) {
         Ok(routes) => {
-            meeting::chosen(&routes, job.k).map_or_else(CheckAnswer::default, CheckAnswer::from)
+            let chosen = meeting::chosen(&routes, &job.slips());
+            chosen.map_or_else(CheckAnswer::default, CheckAnswer::from)
         }
         Err(refused) => refused,
     }
@@ -115,7 +116,7 @@ impl From<Meeting> for CheckAnswer {
     fn from(meeting: Meeting) -> Self {
         CheckAnswer {
             number: 22,
-            carrier: meeting.carrier,
+            carrier: meeting.earlier,
             other: meeting.other,
             step: meeting.step,
             distance: meeting.distance,
@@ -134,10 +135,14 @@ mod tests {
             width: 3,
             height: 2,
             hall: b"....#.".to_vec(),
-            carriers: vec![Carrier { start: 0, goal: 2 }, Carrier { start: 3, goal: 0 }],
-            k: 0,
+            carriers: vec![carrier(0, 2), carrier(3, 0)],
             horizon: 3,
         }
+    }
+
+    fn carrier(start: u8, goal: u8) -> Carrier {
+        let slip = 0;
+        Carrier { start, goal, slip }
     }
 
     fn wrong(carrier: usize, step: usize) -> CheckAnswer {
@@ -199,8 +204,7 @@ mod tests {
             width: 2,
             height: 1,
             hall: b"..".to_vec(),
-            carriers: vec![Carrier { start: 0, goal: 1 }],
-            k: 0,
+            carriers: vec![carrier(0, 1)],
             horizon: 0,
         };
         assert_eq!(route_check(&one, &[0]), wrong(0, 0));
@@ -217,15 +221,17 @@ mod tests {
             ..CheckAnswer::default()
         };
         assert_eq!(meeting_check(&job(), &plan), swap);
-        let late = Job { k: 2, ..job() };
-        let meeting = CheckAnswer {
+        let meeting = |carrier: usize, other: usize| CheckAnswer {
             number: 22,
-            carrier: 0,
-            other: 1,
-            step: 0,
+            carrier,
+            other,
             distance: 1,
             ..CheckAnswer::default()
         };
-        assert_eq!(meeting_check(&late, &plan), meeting);
+        let mut late = job();
+        late.carriers[1].slip = 2;
+        assert_eq!(meeting_check(&late, &plan), meeting(1, 0));
+        late.carriers[0].slip = 2;
+        assert_eq!(meeting_check(&late, &plan), meeting(0, 1));
     }
 }

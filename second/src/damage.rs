@@ -1,6 +1,6 @@
 //! Jobs made to be refused by checks 1 to 6 and 16, lent tables made to be too
 //! short (7), and books made to be refused by the reader (11 to 14) or to be cut
-//! at 293 bytes.
+//! at 300 bytes.
 
 use crate::book::{Bodies, ENTRIES, ENTRY, FIRST_BODY};
 use crate::generate;
@@ -16,7 +16,8 @@ pub fn book(random: &mut Random) -> Vec<u8> {
         35..=51 => Bodies::of(&generate::waiting(random)).bind(),
         52..=61 => Bodies::of(&generate::crowded(random)).bind(),
         62..=65 => Bodies::of(&generate::needing_about(random, RECORDS)).bind(),
-        66..=79 => Bodies::of(&refused_job(random)).bind(),
+        66..=76 => Bodies::of(&refused_job(random)).bind(),
+        77..=79 => Bodies::of(&wrong_carriers_job(random)).bind(),
         80..=84 => Bodies::of(&sharing_job(random)).bind(),
         _ => damaged_book(random),
     }
@@ -49,6 +50,7 @@ pub fn spoilt_job(random: &mut Random, mut job: Job) -> Job {
             spoil_limits,
             spoil_count,
             spoil_cell,
+            spoil_slip,
             share_starts,
             share_goals,
             share_starts_and_goals,
@@ -64,6 +66,21 @@ pub fn sharing_job(random: &mut Random) -> Job {
     let mut job = generate::crowded(random);
     let share = random.pick(&[share_starts, share_goals, share_starts_and_goals, any_ends]);
     share(random, &mut job);
+    job
+}
+
+/// A job without a fault of checks 1 to 4 in which up to three carriers have a wrong
+/// slip, start or goal, mostly a slip, and ends may be shared too.
+pub fn wrong_carriers_job(random: &mut Random) -> Job {
+    let mut job = generate::crowded(random);
+    if random.chance(40) {
+        let share = random.pick(&[share_starts, share_goals, share_starts_and_goals]);
+        share(random, &mut job);
+    }
+    for _ in 0..random.between(1, 3) {
+        let spoil = random.pick(&[spoil_slip, spoil_slip, spoil_cell]);
+        spoil(random, &mut job);
+    }
     job
 }
 
@@ -147,13 +164,9 @@ fn spoil_hall(random: &mut Random, job: &mut Job) {
     }
 }
 
-/// For 3: "k above 4, H above 63".
+/// For 3: "H above 63".
 fn spoil_limits(random: &mut Random, job: &mut Job) {
-    if random.chance(50) {
-        job.k = random.pick(&[5, 6, 255]);
-    } else {
-        job.horizon = random.pick(&[64, 65, 255]);
-    }
+    job.horizon = random.pick(&[64, 65, 255]);
 }
 
 /// For 4: "no carrier, or more than 8".
@@ -162,7 +175,9 @@ fn spoil_count(random: &mut Random, job: &mut Job) {
         job.carriers.clear();
     } else {
         let many = random.between(MOST_CARRIERS + 1, MOST_CARRIERS + 4);
-        job.carriers.resize(many, Carrier { start: 0, goal: 0 });
+        let slip = random.pick(&[0, 4, 5]);
+        let (start, goal) = (0, 0);
+        job.carriers.resize(many, Carrier { start, goal, slip });
     }
 }
 
@@ -178,6 +193,15 @@ fn spoil_cell(random: &mut Random, job: &mut Job) {
     } else {
         job.carriers[i].goal = random.pick(&wrong);
     }
+}
+
+/// For 5: "a slip above 4".
+fn spoil_slip(random: &mut Random, job: &mut Job) {
+    if job.carriers.is_empty() {
+        return;
+    }
+    let i = random.below(job.carriers.len());
+    job.carriers[i].slip = random.pick(&[5, 5, 6, 8, 64, 128, 255]);
 }
 
 /// For 6: "two carriers with one start", alone.
@@ -236,17 +260,19 @@ fn pairs(random: &mut Random, carriers: usize) -> Vec<(usize, usize)> {
     (0..many).map(|_| pair()).collect()
 }
 
-/// For 14: "hall body under 2 bytes, carriers body of odd length, or limits
-/// body not 2 bytes".
+/// For 14: "hall body under 2 bytes", a carriers body without "3 bytes for each
+/// carrier", a limits body that isn't 1 byte.
 fn spoil_lengths(random: &mut Random, bodies: &mut Bodies) {
     match random.below(3) {
         0 => bodies.hall.truncate(random.below(2)),
-        1 => bodies.carriers.push(0),
-        _ => bodies.limits.resize(random.pick(&[0, 1, 3, 4]), 0),
+        1 => bodies
+            .carriers
+            .extend(random.pick(&[&[0][..], &[0, 0], &[0, 0, 0, 0]])),
+        _ => bodies.limits.resize(random.pick(&[0, 2, 2, 3, 4]), 0),
     }
 }
 
-/// Bodies that follow one another to an end near 293 bytes.
+/// Bodies that follow one another to an end near 300 bytes.
 fn lengthen(random: &mut Random, bodies: &mut Bodies) {
     let wanted = random.pick(&[
         MOST_BYTES - 1,
@@ -301,7 +327,7 @@ fn spoil_offset_or_length(random: &mut Random, mut book: Vec<u8>) -> Vec<u8> {
     book
 }
 
-/// For 13, or cut off again at 293 bytes.
+/// For 13, or cut off again at 300 bytes.
 fn add_bytes(random: &mut Random, mut book: Vec<u8>) -> Vec<u8> {
     let more = random.pick(&[1, 1, 2, 40, 300]);
     book.extend((0..more).map(|_| random.byte()));
@@ -339,6 +365,29 @@ mod tests {
             .map(|refusal| refusal.number())
             .collect();
         assert_eq!(numbers, BTreeSet::from([1, 2, 3, 4, 5, 6, 16]));
+    }
+
+    /// 5 comes of a slip, of a start or goal, and of both, the first fault being of
+    /// either kind; also where ends are shared.
+    #[test]
+    fn jobs_with_wrong_carriers_have_slips_and_ends_wrong() {
+        let mut random = Random::new(7);
+        let mut sorts = [0; 5];
+        for _ in 0..400 {
+            let job = wrong_carriers_job(&mut random);
+            let slip = refusals::with_wrong_slip(&job).into_iter().min();
+            let end = refusals::with_wrong_end(&job).into_iter().min();
+            let sort = match (slip, end) {
+                (Some(slip), Some(end)) if slip < end => 0,
+                (Some(slip), Some(end)) if slip > end => 1,
+                (Some(_), None) => 2,
+                _ => continue,
+            };
+            sorts[sort] += 1;
+            sorts[3] += usize::from(refusals::shared(&job).is_some());
+            sorts[4] += usize::from(slip.is_some_and(|slip| slip > 0));
+        }
+        assert!(sorts.iter().all(|count| *count > 20), "{sorts:?}");
     }
 
     #[test]

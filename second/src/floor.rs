@@ -77,7 +77,6 @@ mod tests {
             height,
             hall: hall.to_vec(),
             carriers: vec![],
-            k: 0,
             horizon: 0,
         })
     }

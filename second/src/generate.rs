@@ -7,8 +7,9 @@ use crate::planner;
 use crate::random::Random;
 use crate::route;
 
-/// A job of any kind: halls of every shape, 1 to 8 carriers, k 0 to 4, H 0 to
-/// 63 but mostly just long enough. Most have a route for every carrier.
+/// A job of any kind: halls of every shape, 1 to 8 carriers, slips 0 to 4, equal and
+/// unequal, H 0 to 63 but mostly just long enough. Most have a route for every
+/// carrier.
 pub fn job(random: &mut Random) -> Job {
     let connected = random.chance(90);
     loop {
@@ -45,24 +46,23 @@ pub fn waiting(random: &mut Random) -> Job {
         let Some(longest) = longest_alone(&job) else {
             continue;
         };
-        let more = random.between(1, 3 + 2 * job.k);
-        job.horizon = (longest + more).min(MOST_HORIZON);
+        job.horizon = (longest + to_lose(random, &job)).min(MOST_HORIZON);
         return job;
     }
 }
 
 /// A job as [`waiting`] has them, small enough for brute force: 2 or 3 carriers,
-/// at most 16 cells, H at most 6, k 0 to 2.
+/// at most 16 cells, H at most 6, slips mostly 0 to 2.
 pub fn small_waiting(random: &mut Random) -> Job {
     let mut job = losing_steps(random, 4, 5);
     job.carriers.truncate(3);
-    job.k = random.below(3);
+    give_small_slips(random, &mut job.carriers);
     job.horizon = random.between(4, 6);
     job
 }
 
 /// A job small enough for brute force: 2 or 3 carriers, at most 9 cells, H at
-/// most 5, k 0 to 2.
+/// most 5, slips mostly 0 to 2.
 pub fn small(random: &mut Random) -> Job {
     let shapes = [
         (3, 3),
@@ -82,7 +82,7 @@ pub fn small(random: &mut Random) -> Job {
         let density = random.pick(&[0, 0, 0, 15, 30]);
         let carriers = random.between(2, 3);
         let mut job = job_in(random, shape, density, carriers);
-        job.k = random.below(3);
+        give_small_slips(random, &mut job.carriers);
         job.horizon = random.pick(&[0, 1, 2, 3, 4, 4, 5, 5, 5]);
         if job.carriers.len() >= 2 {
             return job;
@@ -116,17 +116,17 @@ pub fn needing_about(random: &mut Random, capacity: usize) -> Job {
 /// so many cells at most. The horizon is still to be set.
 fn losing_steps(random: &mut Random, most: usize, longest: usize) -> Job {
     loop {
-        let ((width, height), hall, carriers) = if random.chance(65) {
+        let ((width, height), hall, mut carriers) = if random.chance(65) {
             crossing_ways(random, most)
         } else {
             aisle_with_bays(random, longest)
         };
+        give_slips(random, &mut carriers);
         let job = Job {
             width,
             height,
             hall,
             carriers,
-            k: random.pick(&[0, 0, 1, 1, 1, 2, 2, 3, 4]),
             horizon: 0,
         };
         if job.carriers.len() > 1 && job.refusal(None).is_none() {
@@ -135,7 +135,41 @@ fn losing_steps(random: &mut Random, most: usize, longest: usize) -> Job {
     }
 }
 
-/// Shape, hall bytes and carriers.
+/// Slips 0 to 4.
+fn give_slips(random: &mut Random, carriers: &mut [Carrier]) {
+    give_slips_of(random, carriers, &[0, 0, 0, 1, 1, 1, 2, 2, 3, 4]);
+}
+
+/// Slips 0 to 2, one in ten 4: within so few steps hardly anybody passes a carrier
+/// that slips so far.
+fn give_small_slips(random: &mut Random, carriers: &mut [Carrier]) {
+    give_slips_of(random, carriers, &[0, 0, 0, 1, 1, 1, 2, 2, 2, 4]);
+}
+
+/// One slip for all; or one for a single carrier, heavy among light ones or light
+/// among heavy ones, and one for the others; or each its own, now and then none for
+/// the first two, which are often head-on.
+fn give_slips_of(random: &mut Random, carriers: &mut [Carrier], slips: &[u8]) {
+    let sort = random.below(20);
+    let (single, usual) = (random.below(carriers.len()), random.pick(slips));
+    for (i, carrier) in carriers.iter_mut().enumerate() {
+        carrier.slip = match sort {
+            0..=7 => usual,
+            8..=11 if i != single => usual,
+            12..=13 if i < 2 => 0,
+            _ => random.pick(slips),
+        };
+    }
+}
+
+/// How many steps more than a carrier alone needs the horizon leaves it: often
+/// enough to let another pass, whatever its slip.
+fn to_lose(random: &mut Random, job: &Job) -> usize {
+    let greatest = job.slips().into_iter().max().unwrap_or(0);
+    random.between(1, 3 + 2 * greatest)
+}
+
+/// Shape, hall bytes and carriers, whose slips are still to be given.
 type Layout = ((usize, usize), Vec<u8>, Vec<Carrier>);
 
 /// Carriers that go from edge to edge, some along a row and some along a column,
@@ -144,13 +178,10 @@ fn crossing_ways(random: &mut Random, most: usize) -> Layout {
     let shape = (random.between(2, most), random.between(2, most));
     let density = random.pick(&[0, 0, 0, 10]);
     let hall = hall(random, shape.0 * shape.1, density);
-    let Carrier { start, goal } = way(random, shape);
-    let mut carriers = vec![Carrier { start, goal }];
+    let first = way(random, shape);
+    let mut carriers = vec![first];
     if random.chance(35) {
-        carriers.push(Carrier {
-            start: goal,
-            goal: start,
-        });
+        carriers.push(without_slip(first.goal, first.start));
     }
     for _ in 0..20 {
         let way = way(random, shape);
@@ -170,10 +201,12 @@ fn way(random: &mut Random, (width, height): (usize, usize)) -> Carrier {
     let along_column = (column, (height - 1) * width + column);
     let (from, to) = random.pick(&[along_row, along_column]);
     let (start, goal) = random.pick(&[(from, to), (to, from)]);
-    Carrier {
-        start: start as u8,
-        goal: goal as u8,
-    }
+    without_slip(start as u8, goal as u8)
+}
+
+fn without_slip(start: u8, goal: u8) -> Carrier {
+    let slip = 0;
+    Carrier { start, goal, slip }
 }
 
 /// A narrow aisle with a bay here and there on both sides, along the rows or along
@@ -220,12 +253,13 @@ fn job_in(
     carriers: usize,
 ) -> Job {
     let hall = hall(random, width * height, density);
+    let mut carriers = carriers_on(random, &hall, carriers);
+    give_slips(random, &mut carriers);
     let mut job = Job {
         width,
         height,
-        carriers: carriers_on(random, &hall, carriers),
         hall,
-        k: random.pick(&[0, 0, 0, 1, 1, 1, 2, 2, 3, 4]),
+        carriers,
         horizon: MOST_HORIZON,
     };
     job.horizon = horizon_for(random, &job);
@@ -242,8 +276,9 @@ fn hall(random: &mut Random, cells: usize, density: usize) -> Vec<u8> {
     hall
 }
 
-/// Carriers with different starts and different goals. Some are parked (start =
-/// goal), some have the start of another as their goal, which is no fault.
+/// Carriers with different starts and different goals, their slips still to be
+/// given. Some are parked (start = goal), some have the start of another as their
+/// goal, which is no fault.
 fn carriers_on(random: &mut Random, hall: &[u8], carriers: usize) -> Vec<Carrier> {
     let mut starts: Vec<u8> = (0..=u8::MAX)
         .zip(hall)
@@ -262,7 +297,8 @@ fn carriers_on(random: &mut Random, hall: &[u8], carriers: usize) -> Vec<Carrier
         }
     }
     let ends = starts.into_iter().zip(goals);
-    ends.map(|(start, goal)| Carrier { start, goal }).collect()
+    ends.map(|(start, goal)| without_slip(start, goal))
+        .collect()
 }
 
 /// Gives carrier i the cell as its goal, and its goal to the one that had that.
@@ -282,7 +318,7 @@ fn horizon_for(random: &mut Random, job: &Job) -> usize {
         2 => random.between(0, MOST_HORIZON),
         3 => longest.saturating_sub(1),
         4 | 5 => longest,
-        _ => longest + random.between(1, 3 + 2 * job.k),
+        _ => longest + to_lose(random, job),
     };
     horizon.min(MOST_HORIZON)
 }
@@ -301,6 +337,7 @@ fn longest_alone(job: &Job) -> Option<usize> {
 #[cfg(test)]
 mod tests {
     use super::*;
+    use std::collections::BTreeSet;
 
     #[test]
     fn jobs_pass_checks_1_to_6_and_16() {
@@ -312,6 +349,59 @@ mod tests {
             assert_eq!(small_waiting(&mut random).refusal(None), None);
             assert_eq!(small(&mut random).refusal(None), None);
         }
+    }
+
+    /// Of each sort of job a good part has equal slips and a good part unequal ones,
+    /// and there are those in which the slips decide who may pass whom: one that
+    /// slips and one that doesn't head-on, two without slip head-on beside others
+    /// that slip, and a parked carrier beside one with another slip.
+    #[test]
+    fn slips_are_often_equal_and_often_unequal() {
+        for draw in [job, crowded, waiting, small_waiting, small] {
+            let mut random = Random::new(14);
+            let mut jobs: Vec<Job> = (0..600).map(|_| draw(&mut random)).collect();
+            jobs.retain(|job| job.carriers.len() > 1);
+            let unequal = jobs.iter().filter(|job| !have_equal_slips(job)).count();
+            assert!(3 * unequal > jobs.len(), "{unequal} of {}", jobs.len());
+            assert!(4 * unequal < 3 * jobs.len(), "{unequal} of {}", jobs.len());
+            let slips: BTreeSet<usize> = jobs.iter().flat_map(Job::slips).collect();
+            assert!(slips.is_superset(&BTreeSet::from([0, 1, 2, 4])));
+        }
+    }
+
+    #[test]
+    fn slips_decide_who_may_pass_whom() {
+        for draw in [waiting, small_waiting] {
+            let mut random = Random::new(15);
+            let jobs: Vec<Job> = (0..1000).map(|_| draw(&mut random)).collect();
+            let many = |what: &dyn Fn(&Job, Carrier, Carrier) -> bool| {
+                let shows = |job: &&Job| {
+                    let mut pairs = job.carriers.iter().flat_map(|a| {
+                        let others = job.carriers.iter();
+                        others.map(move |b| (*a, *b))
+                    });
+                    pairs.any(|(a, b)| a != b && what(job, a, b))
+                };
+                jobs.iter().filter(shows).count()
+            };
+            let head_on = |a: Carrier, b: Carrier| a.start == b.goal && a.goal == b.start;
+            let parked = |a: Carrier| a.start == a.goal;
+            let one_slips = many(&|_, a, b| head_on(a, b) && a.slip == 0 && b.slip > 0);
+            let far = many(&|_, a, b| head_on(a, b) && (a.slip, b.slip) == (0, 4));
+            let none_slips = many(&|job, a, b| {
+                head_on(a, b) && (a.slip, b.slip) == (0, 0) && !have_equal_slips(job)
+            });
+            let beside_parked = many(&|_, a, b| parked(a) && a.slip != b.slip);
+            assert!(one_slips > 20, "only {one_slips}");
+            assert!(far > 2, "only {far}");
+            assert!(none_slips > 10, "only {none_slips}");
+            assert!(beside_parked > 50, "only {beside_parked}");
+        }
+    }
+
+    fn have_equal_slips(job: &Job) -> bool {
+        let first = job.carriers[0].slip;
+        job.carriers.iter().all(|carrier| carrier.slip == first)
     }
 
     #[test]

@@ -1,5 +1,5 @@
 //! The job: "a hall, a list of carriers (each a record of start cell and goal
-//! cell, numbered from 0), the delay bound k (0 to 4), the horizon H (0 to 63)
+//! cell, numbered from 0)" and, by P3, "its own slip", "the horizon H (0 to 63)
 //! and the capacity N". N is kept apart, since the two plan checks have none.
 
 /// The hall byte of an open cell ('.').
@@ -8,8 +8,8 @@ pub const OPEN: u8 = 46;
 pub const CLOSED: u8 = 35;
 /// "A hall is a grid of 1 to 16 columns (width) by 1 to 16 rows (height)."
 pub const MOST_COLUMNS_OR_ROWS: usize = 16;
-/// "the delay bound k (0 to 4)".
-pub const MOST_DELAY: usize = 4;
+/// "Each carrier's record now has its own slip, 0 to 4."
+pub const MOST_SLIP: u8 = 4;
 /// "the horizon H (0 to 63)".
 pub const MOST_HORIZON: usize = 63;
 /// "the capacity N (1 to 1,024 records)".
@@ -17,12 +17,14 @@ pub const MOST_RECORDS: usize = 1024;
 /// "There are 1 to 8 carriers."
 pub const MOST_CARRIERS: usize = 8;
 
-/// "each a record of start cell and goal cell". A cell's number is one byte,
-/// as it is in a book and in plan bytes.
+/// "each a record of start cell and goal cell", and "Each carrier's record now has
+/// its own slip" (P3): how often it may be held in all. A cell's number is one
+/// byte, as it is in a book and in plan bytes, and so is a slip.
 #[derive(Clone, Copy, Debug, PartialEq, Eq)]
 pub struct Carrier {
     pub start: u8,
     pub goal: u8,
+    pub slip: u8,
 }
 
 /// A job without its capacity N.
@@ -32,7 +34,6 @@ pub struct Job {
     pub height: usize,
     pub hall: Vec<u8>,
     pub carriers: Vec<Carrier>,
-    pub k: usize,
     pub horizon: usize,
 }
 
@@ -43,12 +44,14 @@ pub enum Refusal {
     Size,
     /// 2: "the hall hasn't width × height bytes, or a byte is neither 46 nor 35".
     Hall,
-    /// 3: "k above 4, H above 63, or N is 0 or above 1,024".
+    /// 3, which "speaks of H and N only" (P3): "H above 63, or N is 0 or above
+    /// 1,024".
     Limits,
     /// 4: "no carrier, or more than 8".
     Count,
-    /// 5: "a start or goal is outside the grid or closed"; "first such carrier".
-    Cell { carrier: usize },
+    /// 5: "a start or goal is outside the grid or closed", or "a slip above 4"
+    /// (P3); "first such carrier".
+    Carrier { carrier: usize },
     /// 6: "two carriers with one start" (P1); "least i, then least j, i < j".
     SharedStart { carrier: usize, other: usize },
     /// 16: "shared goal, directly after 6 wherever 6 is given" (P1); the pair
@@ -64,7 +67,7 @@ impl Refusal {
             Refusal::Hall => 2,
             Refusal::Limits => 3,
             Refusal::Count => 4,
-            Refusal::Cell { .. } => 5,
+            Refusal::Carrier { .. } => 5,
             Refusal::SharedStart { .. } => 6,
             Refusal::SharedGoal { .. } => 16,
         }
@@ -73,7 +76,7 @@ impl Refusal {
     /// The carrier told. "Untold numbers are 0."
     pub fn carrier(self) -> usize {
         match self {
-            Refusal::Cell { carrier }
+            Refusal::Carrier { carrier }
             | Refusal::SharedStart { carrier, .. }
             | Refusal::SharedGoal { carrier, .. } => carrier,
             _ => 0,
@@ -97,7 +100,7 @@ impl Job {
             .or_else(|| self.wrong_hall())
             .or_else(|| self.wrong_limits(capacity))
             .or_else(|| self.wrong_count())
-            .or_else(|| self.wrong_cell())
+            .or_else(|| self.wrong_carrier())
             .or_else(|| self.shared_start())
             .or_else(|| self.shared_goal())
     }
@@ -105,6 +108,12 @@ impl Job {
     /// Whether the cell is inside the grid and open.
     pub fn is_open(&self, cell: u8) -> bool {
         self.hall.get(usize::from(cell)) == Some(&OPEN)
+    }
+
+    /// The slip of each carrier.
+    pub fn slips(&self) -> Vec<usize> {
+        let carriers = self.carriers.iter();
+        carriers.map(|carrier| usize::from(carrier.slip)).collect()
     }
 
     fn wrong_size(&self) -> Option<Refusal> {
@@ -120,8 +129,7 @@ impl Job {
     }
 
     fn wrong_limits(&self, capacity: Option<usize>) -> Option<Refusal> {
-        let right = self.k <= MOST_DELAY
-            && self.horizon <= MOST_HORIZON
+        let right = self.horizon <= MOST_HORIZON
             && capacity.is_none_or(|n| (1..=MOST_RECORDS).contains(&n));
         (!right).then_some(Refusal::Limits)
     }
@@ -131,11 +139,13 @@ impl Job {
         (!right).then_some(Refusal::Count)
     }
 
-    fn wrong_cell(&self) -> Option<Refusal> {
-        self.carriers
-            .iter()
-            .position(|carrier| !self.is_open(carrier.start) || !self.is_open(carrier.goal))
-            .map(|carrier| Refusal::Cell { carrier })
+    fn wrong_carrier(&self) -> Option<Refusal> {
+        let right = |carrier: &Carrier| {
+            self.is_open(carrier.start) && self.is_open(carrier.goal) && carrier.slip <= MOST_SLIP
+        };
+        let mut carriers = self.carriers.iter();
+        let carrier = carriers.position(|carrier| !right(carrier))?;
+        Some(Refusal::Carrier { carrier })
     }
 
     fn shared_start(&self) -> Option<Refusal> {
@@ -162,17 +172,16 @@ impl Job {
 mod tests {
     use super::*;
 
+    fn carrier(start: u8, goal: u8, slip: u8) -> Carrier {
+        Carrier { start, goal, slip }
+    }
+
     fn job() -> Job {
         Job {
             width: 3,
             height: 2,
             hall: b"...#..".to_vec(),
-            carriers: vec![
-                Carrier { start: 0, goal: 2 },
-                Carrier { start: 1, goal: 5 },
-                Carrier { start: 4, goal: 1 },
-            ],
-            k: 1,
+            carriers: vec![carrier(0, 2, 1), carrier(1, 5, 4), carrier(4, 1, 0)],
             horizon: 6,
         }
     }
@@ -214,8 +223,6 @@ mod tests {
             ..job()
         };
         assert_eq!(late.refusal(None), Some(Refusal::Limits));
-        let slow = Job { k: 5, ..job() };
-        assert_eq!(slow.refusal(None), Some(Refusal::Limits));
     }
 
     #[test]
@@ -226,21 +233,34 @@ mod tests {
         };
         assert_eq!(none.refusal(None), Some(Refusal::Count));
         let nine = Job {
-            carriers: vec![Carrier { start: 0, goal: 0 }; 9],
+            carriers: vec![carrier(0, 0, 5); 9],
             ..job()
         };
         assert_eq!(nine.refusal(None), Some(Refusal::Count));
     }
 
     #[test]
-    fn first_wrong_cell() {
+    fn first_carrier_with_a_wrong_cell() {
         let mut closed = job();
         closed.carriers[1].goal = 3;
         closed.carriers[2].start = 200;
-        assert_eq!(closed.refusal(None), Some(Refusal::Cell { carrier: 1 }));
+        assert_eq!(closed.refusal(None), Some(Refusal::Carrier { carrier: 1 }));
         let mut outside = job();
         outside.carriers[2].start = 6;
-        assert_eq!(outside.refusal(None), Some(Refusal::Cell { carrier: 2 }));
+        assert_eq!(outside.refusal(None), Some(Refusal::Carrier { carrier: 2 }));
+    }
+
+    #[test]
+    fn a_wrong_slip_counts_like_a_wrong_cell() {
+        for slip in [5, 6, 255] {
+            let mut heavy = job();
+            heavy.carriers[1].slip = slip;
+            assert_eq!(heavy.refusal(None), Some(Refusal::Carrier { carrier: 1 }));
+            heavy.carriers[2].start = 200;
+            assert_eq!(heavy.refusal(None), Some(Refusal::Carrier { carrier: 1 }));
+            heavy.carriers[0].goal = 3;
+            assert_eq!(heavy.refusal(None), Some(Refusal::Carrier { carrier: 0 }));
+        }
     }
 
     #[test]
@@ -261,8 +281,8 @@ mod tests {
     #[test]
     fn three_with_one_end_tell_the_first_two() {
         let mut shared = job();
-        shared.carriers.push(Carrier { start: 2, goal: 5 });
-        shared.carriers.push(Carrier { start: 5, goal: 5 });
+        shared.carriers.push(carrier(2, 5, 2));
+        shared.carriers.push(carrier(5, 5, 3));
         assert_eq!(shared.refusal(None).map(told), Some((16, 1, 3)));
         shared.carriers[2].start = 5;
         shared.carriers[1].start = 5;

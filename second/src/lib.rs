@@ -1,7 +1,7 @@
 //! A second, independent program for document 01 ("a planner for delayed
-//! carriers, with exact rules") with P1 ("Tell us which ends are shared") and P2
-//! ("Prefer standing to wandering") of document 02. It exists to disagree with the
-//! first one.
+//! carriers, with exact rules") with P1 ("Tell us which ends are shared"), P2
+//! ("Prefer standing to wandering") and P3 ("Heavy carriers slip more") of document
+//! 02. It exists to disagree with the first one.
 //!
 //! | Module       | Idea of document 01                                     |
 //! |--------------|---------------------------------------------------------|

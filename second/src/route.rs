@@ -198,13 +198,13 @@ mod tests {
         horizon: usize,
         bars: &[Bar],
     ) -> Option<Route> {
-        let carrier = Carrier { start, goal };
+        let slip = 0;
+        let carrier = Carrier { start, goal, slip };
         let floor = Floor::new(&Job {
             width,
             height,
             hall: vec![46; width * height],
             carriers: vec![carrier],
-            k: 0,
             horizon,
         });
         let bars: Vec<_> = bars

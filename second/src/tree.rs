@@ -1,4 +1,4 @@
-//! The search tree (rules 3, 4, 6 and 7).
+//! The search tree (rules 3, 4, 6 and 7, rule 6 as P3 has it).
 
 use std::collections::BTreeSet;
 
@@ -31,7 +31,7 @@ pub fn search(job: &Job, capacity: usize) -> Outcome {
         return tree.full();
     }
     while let Some((sum, number)) = tree.open.pop_first() {
-        let Some(meeting) = meeting::chosen(&tree.nodes[number].routes, job.k) else {
+        let Some(meeting) = meeting::chosen(&tree.nodes[number].routes, &tree.slips) else {
             return tree.plan(sum, number);
         };
         if tree.grow(number, &meeting).is_err() {
@@ -55,6 +55,7 @@ struct NoRecordLeft;
 struct Tree<'a> {
     job: &'a Job,
     floor: Floor,
+    slips: Vec<usize>,
     capacity: usize,
     nodes: Vec<Node>,
     /// The open nodes as (sum, number): the first is the one "of least sum,
@@ -67,6 +68,7 @@ impl<'a> Tree<'a> {
         Tree {
             job,
             floor: Floor::new(job),
+            slips: job.slips(),
             capacity,
             nodes: Vec::new(),
             open: BTreeSet::new(),
@@ -99,24 +101,26 @@ impl<'a> Tree<'a> {
         Ok(())
     }
 
-    /// Rule 6: what child one and child two are barred from.
+    /// Rule 6: what child one and child two are barred from, "the earlier carrier
+    /// in child one" (P3).
     fn bars_for(&self, node: &Node, meeting: &Meeting) -> [CarrierBar; 2] {
-        [meeting.carrier, meeting.other].map(|carrier| CarrierBar {
+        let Meeting { earlier, other, .. } = *meeting;
+        [(earlier, other), (other, earlier)].map(|(carrier, from)| CarrierBar {
             carrier,
             bar: match meeting.kind {
-                Kind::Meeting => self.standing_bar(node, meeting),
+                Kind::Meeting => self.standing_bar(node, meeting, self.slips[from]),
                 Kind::Swap => crossing_bar(&node.routes[carrier], meeting.step),
             },
         })
     }
 
-    /// "For a meeting on cell v, child one bars i and child two bars j, each
-    /// from v over steps t to t + k (... steps past H are dropped ...)."
-    fn standing_bar(&self, node: &Node, meeting: &Meeting) -> Bar {
+    /// "i is barred from e to e + slip of j, j from e to e + slip of i": each by
+    /// the slip of the one it meets. "steps past H are dropped".
+    fn standing_bar(&self, node: &Node, meeting: &Meeting, slip_of_the_one_met: usize) -> Bar {
         Bar::Standing {
-            cell: node.routes[meeting.carrier][meeting.step],
+            cell: node.routes[meeting.earlier][meeting.step],
             first: meeting.step,
-            last: (meeting.step + self.job.k).min(self.job.horizon),
+            last: (meeting.step + slip_of_the_one_met).min(self.job.horizon),
         }
     }
 

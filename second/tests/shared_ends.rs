@@ -1,29 +1,16 @@
 //! P1 of document 02, "Tell us which ends are shared", sentence by sentence.
 
-use second::book::Bodies;
+mod common;
+
+use common::{N, eight_slipping, refused_everywhere};
 use second::check::{CheckAnswer, meeting_check, route_check};
-use second::job::{Carrier, Job};
+use second::job::Job;
 use second::planner::{plan, plan_lent};
-use second::print::print_book;
 use second::tables::least_lengths;
 
-const N: usize = 128;
-
-/// Eight carriers in an open hall of 4 by 4, each from a cell of the upper half
-/// to the cell two rows below it: no two share an end.
+/// Eight carriers that do not slip.
 fn eight() -> Job {
-    let carriers = (0..8).map(|start| Carrier {
-        start,
-        goal: start + 8,
-    });
-    Job {
-        width: 4,
-        height: 4,
-        hall: vec![46; 16],
-        carriers: carriers.collect(),
-        k: 0,
-        horizon: 6,
-    }
+    eight_slipping(|_| 0)
 }
 
 fn share_start(job: &mut Job, i: usize, j: usize) {
@@ -34,19 +21,9 @@ fn share_goal(job: &mut Job, i: usize, j: usize) {
     job.carriers[j].goal = job.carriers[i].goal;
 }
 
-/// The planner, both checks and the program give this number with this pair,
-/// even where every lent table is too short, and the plan too.
-fn refused_everywhere(job: &Job, number: u8, i: usize, j: usize) {
-    let told = [usize::from(number), 0, 0, i, j, 0, 0];
-    assert_eq!(plan(job, N).told(), told);
-    assert_eq!(plan_lent(job, N, [0; 4]).told(), told);
-    let told = [usize::from(number), i, j, 0, 0, 0, 0];
-    for bytes in [vec![], vec![0; 8 * 7]] {
-        assert_eq!(route_check(job, &bytes).told(), told);
-        assert_eq!(meeting_check(job, &bytes).told(), told);
-    }
-    let lines = format!("answer {number}\ncarriers {i} {j}\n");
-    assert_eq!(print_book(&Bodies::of(job).bind()), lines);
+/// This number with this pair, wherever 6 and 16 are given.
+fn pair_everywhere(job: &Job, number: u8, i: usize, j: usize) {
+    refused_everywhere(job, number, i, j, &format!("carriers {i} {j}"));
 }
 
 /// "Keep 6 for two carriers with one start".
@@ -54,11 +31,11 @@ fn refused_everywhere(job: &Job, number: u8, i: usize, j: usize) {
 fn one_start_is_6() {
     let mut job = eight();
     share_start(&mut job, 2, 5);
-    refused_everywhere(&job, 6, 2, 5);
+    pair_everywhere(&job, 6, 2, 5);
     share_start(&mut job, 1, 7);
-    refused_everywhere(&job, 6, 1, 7);
+    pair_everywhere(&job, 6, 1, 7);
     share_start(&mut job, 1, 3);
-    refused_everywhere(&job, 6, 1, 3);
+    pair_everywhere(&job, 6, 1, 3);
 }
 
 /// "and use a new number for one goal": "16 shared goal".
@@ -66,11 +43,11 @@ fn one_start_is_6() {
 fn one_goal_is_16() {
     let mut job = eight();
     share_goal(&mut job, 2, 5);
-    refused_everywhere(&job, 16, 2, 5);
+    pair_everywhere(&job, 16, 2, 5);
     share_goal(&mut job, 1, 7);
-    refused_everywhere(&job, 16, 1, 7);
+    pair_everywhere(&job, 16, 1, 7);
     share_goal(&mut job, 1, 3);
-    refused_everywhere(&job, 16, 1, 3);
+    pair_everywhere(&job, 16, 1, 3);
 }
 
 /// "each with the pair": each its own, whichever is the lesser.
@@ -78,16 +55,16 @@ fn one_goal_is_16() {
 fn one_goal_of_0_and_1_beside_one_start_of_6_and_7_is_6_with_6_and_7() {
     let mut job = eight();
     share_goal(&mut job, 0, 1);
-    refused_everywhere(&job, 16, 0, 1);
+    pair_everywhere(&job, 16, 0, 1);
     share_start(&mut job, 6, 7);
-    refused_everywhere(&job, 6, 6, 7);
+    pair_everywhere(&job, 6, 6, 7);
 }
 
 #[test]
 fn one_pair_with_one_start_and_one_goal_is_6() {
     let mut job = eight();
     job.carriers[4] = job.carriers[2];
-    refused_everywhere(&job, 6, 2, 4);
+    pair_everywhere(&job, 6, 2, 4);
 }
 
 /// Only "two carriers with one start" and with "one goal" are refused.
@@ -114,7 +91,7 @@ fn lower_numbers_come_before_16() {
     assert_eq!(numbers(&job), [5; 3]);
     job.carriers.push(job.carriers[0]);
     assert_eq!(numbers(&job), [4; 3]);
-    job.k = 5;
+    job.horizon = 64;
     assert_eq!(numbers(&job), [3; 3]);
     job.hall.pop();
     assert_eq!(numbers(&job), [2; 3]);

@@ -1,21 +1,29 @@
-//! "Jobs worked by hand": all of them, as P2 has their ties, and the wrong turns
-//! they guard against. "Cells all open; k is 0 and N is 128 where not given".
+//! "Jobs worked by hand": all of them, as P2 has their ties, every slip being their
+//! k, and the wrong turns they guard against; and jobs of unequal slips. "Cells all
+//! open; k is 0 and N is 128 where not given".
 
 use second::brute::{holds, least_sum, tree_by_words};
 use second::check::{CheckAnswer, meeting_check, route_check};
 use second::job::{Carrier, Job};
 use second::planner::{PlanAnswer, plan};
 
-fn job(size: (usize, usize), ends: &[(u8, u8)], k: usize, horizon: usize) -> Job {
-    let carriers = ends.iter().map(|&(start, goal)| Carrier { start, goal });
+/// Start, goal and slip of each carrier.
+fn slipping(size: (usize, usize), records: &[(u8, u8, u8)], horizon: usize) -> Job {
+    let carriers = records.iter();
+    let carriers = carriers.map(|&(start, goal, slip)| Carrier { start, goal, slip });
     Job {
         width: size.0,
         height: size.1,
         hall: vec![46; size.0 * size.1],
         carriers: carriers.collect(),
-        k,
         horizon,
     }
+}
+
+/// Start and goal of each carrier, the slip of all being k.
+fn job(size: (usize, usize), ends: &[(u8, u8)], k: u8, horizon: usize) -> Job {
+    let records: Vec<_> = ends.iter().map(|&(start, goal)| (start, goal, k)).collect();
+    slipping(size, &records, horizon)
 }
 
 fn found(sum: usize, records: usize, routes: &[&[u8]]) -> PlanAnswer {
@@ -50,7 +58,7 @@ fn answer(job: &Job, capacity: usize) -> PlanAnswer {
         assert_eq!(route_check(job, &bytes), CheckAnswer::default());
         assert_eq!(meeting_check(job, &bytes), CheckAnswer::default());
         let routes: Vec<&[u8]> = answer.routes.iter().map(Vec::as_slice).collect();
-        assert!(!holds::some_pattern_collides(&routes, job.k));
+        assert!(!holds::some_pattern_collides(&routes, &job.slips()));
         assert_eq!(least_sum::least_sum(job), Some(answer.sum));
     }
     if answer.number == 8 {
@@ -74,16 +82,16 @@ fn crossing_in_a_square() {
 }
 
 #[test]
-fn crossing_in_a_square_with_delay() {
+fn crossing_in_a_square_with_slips() {
     let cross = job((3, 3), &[(3, 5), (1, 7)], 1, 4);
     let plan = found(6, 3, &[&[3, 3, 3, 4, 5], &[1, 4, 7, 7, 7]]);
     assert_eq!(answer(&cross, 3), plan);
 }
 
-/// Beyond document 01: with k 2 one of two that cross stands still for three steps
+/// Beyond document 01: with slips of 2 one of two that cross stands still for three steps
 /// and once for two.
 #[test]
-fn crossing_in_larger_halls_with_more_delay() {
+fn crossing_in_larger_halls_with_greater_slips() {
     let square = job((4, 4), &[(4, 7), (1, 13)], 2, 10);
     let across = [4, 4, 4, 4, 5, 6, 7, 7, 7, 7, 7];
     let down = [1, 5, 9, 13, 13, 13, 13, 13, 13, 13, 13];
@@ -135,6 +143,36 @@ fn past_a_carrier_on_its_goal() {
     assert_eq!((answer.number, answer.sum), (0, 6));
 }
 
+/// Each gives way to the one that slips: it may not follow closely behind.
+#[test]
+fn head_on_with_a_way_round() {
+    let hall = |slips: [u8; 2]| slipping((4, 2), &[(0, 3, slips[0]), (3, 0, slips[1])], 8);
+    let round = [0, 1, 5, 6, 2, 3, 3, 3, 3];
+    let straight = [3, 2, 1, 0, 0, 0, 0, 0, 0];
+    let plan = found(8, 9, &[&round, &straight]);
+    assert_eq!(answer(&hall([0, 1]), 128), plan);
+    let straight = [0, 1, 2, 3, 3, 3, 3, 3, 3];
+    let round = [3, 2, 6, 5, 1, 0, 0, 0, 0];
+    let plan = found(8, 11, &[&straight, &round]);
+    assert_eq!(answer(&hall([1, 0]), 128), plan);
+}
+
+#[test]
+fn head_on_in_a_row_where_one_slips() {
+    let row = slipping((3, 1), &[(0, 2, 0), (2, 0, 1)], 6);
+    assert_eq!(answer(&row, 128), not_found(8, 38));
+}
+
+#[test]
+fn three_of_different_slips_in_a_square() {
+    let square = slipping((3, 3), &[(3, 5, 2), (1, 7, 0), (8, 0, 1)], 10);
+    let across = [3, 3, 4, 5, 5, 5, 5, 5, 5, 5, 5];
+    let down = [1, 4, 7, 7, 7, 7, 7, 7, 7, 7, 7];
+    let corner = [8, 5, 2, 1, 0, 0, 0, 0, 0, 0, 0];
+    let plan = found(9, 3, &[&across, &down, &corner]);
+    assert_eq!(answer(&square, 128), plan);
+}
+
 #[test]
 fn told_numbers_of_refusals() {
     let mut square = job((3, 3), &[(3, 5), (1, 7)], 0, 4);
@@ -154,4 +192,10 @@ fn told_numbers_of_refusals() {
     assert_eq!(answer(&square, 128), told);
     assert_eq!(answer(&square, 0), not_found(3, 0));
     assert_eq!(answer(&square, 1025), not_found(3, 0));
+    square.carriers[0].slip = 5;
+    let told = PlanAnswer {
+        number: 5,
+        ..PlanAnswer::default()
+    };
+    assert_eq!(answer(&square, 128), told);
 }

@@ -11,6 +11,8 @@ use second::random::Random;
 pub struct PlanFamily {
     pub name: String,
     pub tasks: Vec<PlanTask>,
+    /// Is an earlier planner asked too?
+    pub for_earlier: bool,
 }
 
 /// What counts as a deep chain.
@@ -27,9 +29,15 @@ const NARROW: Shape = Shape {
     width: 2,
     height: 8,
     closed: 0,
-    carriers: 0,
-    k: 0,
     h: 63,
+};
+
+/// The halls of source 002, table 1: "an open 8x8 grid".
+const OPEN_HALL: Shape = Shape {
+    width: 8,
+    height: 8,
+    closed: 0,
+    h: 24,
 };
 
 struct Shape {
@@ -37,38 +45,29 @@ struct Shape {
     height: usize,
     /// Closed cells in 100.
     closed: usize,
-    carriers: usize,
-    k: usize,
     h: usize,
 }
 
-/// The families of the brief, in its order.
+/// The families of the brief, in its order, and one of unequal slips.
 pub fn plan_families(random: &mut Random) -> Vec<PlanFamily> {
     let mut families = Vec::new();
     for carriers in [4, 6, 8] {
-        for k in [0, 1, 2] {
-            families.push(open_family(random, carriers, k));
+        for slip in [0, 1, 2] {
+            families.push(open_family(random, carriers, slip));
         }
     }
     families.push(closed_family(random));
     families.push(narrow_family(random));
     families.push(deep_family(random));
+    families.push(unequal_family(random));
     families
 }
 
-/// Source 002, table 1: "an open 8x8 grid".
-fn open_family(random: &mut Random, carriers: usize, k: usize) -> PlanFamily {
-    let shape = Shape {
-        width: 8,
-        height: 8,
-        closed: 0,
-        carriers,
-        k,
-        h: 24,
-    };
+fn open_family(random: &mut Random, carriers: usize, slip: u8) -> PlanFamily {
     PlanFamily {
-        name: format!("8 by 8 open, {carriers} carriers, k {k}"),
-        tasks: draw_jobs(random, &shape, |_| true),
+        name: format!("8 by 8 open, {carriers} carriers, slip {slip}"),
+        tasks: draw_jobs(random, &OPEN_HALL, &vec![slip; carriers], |_| true),
+        for_earlier: true,
     }
 }
 
@@ -78,54 +77,63 @@ fn closed_family(random: &mut Random) -> PlanFamily {
         width: 16,
         height: 16,
         closed: 20,
-        carriers: 4,
-        k: 1,
         h: 63,
     };
     PlanFamily {
-        name: "16 by 16, 20 % closed, 4 carriers, k 1".into(),
-        tasks: draw_jobs(random, &shape, has_root),
+        name: "16 by 16, 20 % closed, 4 carriers, slip 1".into(),
+        tasks: draw_jobs(random, &shape, &[1; 4], has_root),
+        for_earlier: true,
     }
 }
 
 fn narrow_family(random: &mut Random) -> PlanFamily {
     PlanFamily {
-        name: "2 by 8 open, 6 carriers, k 0".into(),
-        tasks: draw_jobs(
-            random,
-            &Shape {
-                carriers: 6,
-                ..NARROW
-            },
-            |_| true,
-        ),
+        name: "2 by 8 open, 6 carriers, slip 0".into(),
+        tasks: draw_jobs(random, &NARROW, &[0; 6], |_| true),
+        for_earlier: true,
     }
 }
 
 fn deep_family(random: &mut Random) -> PlanFamily {
     let drawn = repeat_with(|| draw_deep_job(random));
     PlanFamily {
-        name: "2 by 8, a full corner, 4 carriers, k 0".into(),
+        name: "2 by 8, a full corner, 4 carriers, slip 0".into(),
         tasks: drawn
             .filter(|task| deepest_chain(task) > DEEP)
             .take(INPUTS)
             .collect(),
+        for_earlier: true,
     }
 }
 
-fn draw_jobs(random: &mut Random, shape: &Shape, wanted: fn(&PlanTask) -> bool) -> Vec<PlanTask> {
-    repeat_with(|| draw_job(random, shape))
+/// Carriers that slip beside others that slip less or not at all. An earlier planner
+/// may know one slip for all of them only.
+fn unequal_family(random: &mut Random) -> PlanFamily {
+    PlanFamily {
+        name: "8 by 8 open, 6 carriers, slips 0 1 2 0 1 2".into(),
+        tasks: draw_jobs(random, &OPEN_HALL, &[0, 1, 2, 0, 1, 2], |_| true),
+        for_earlier: false,
+    }
+}
+
+fn draw_jobs(
+    random: &mut Random,
+    shape: &Shape,
+    slips: &[u8],
+    wanted: fn(&PlanTask) -> bool,
+) -> Vec<PlanTask> {
+    repeat_with(|| draw_job(random, shape, slips))
         .filter(wanted)
         .take(INPUTS)
         .collect()
 }
 
-/// A job with different starts and different goals.
-fn draw_job(random: &mut Random, shape: &Shape) -> PlanTask {
+/// A job with different starts and different goals, and a carrier for each slip.
+fn draw_job(random: &mut Random, shape: &Shape, slips: &[u8]) -> PlanTask {
     let hall: Vec<u8> = (0..shape.width * shape.height)
         .map(|_| hall_byte(random, shape.closed))
         .collect();
-    let carriers = draw_ends(random, &open_cells(&hall), shape.carriers);
+    let carriers = draw_carriers(random, &open_cells(&hall), slips);
     task(shape, hall, carriers)
 }
 
@@ -139,20 +147,22 @@ fn draw_deep_job(random: &mut Random) -> PlanTask {
         .into_iter()
         .filter(|cell| !CORNER.contains(cell))
         .collect();
-    let mut carriers = draw_ends(random, &CORNER, CORNER.len());
-    carriers.extend(draw_ends(random, &elsewhere, 1));
+    let mut carriers = draw_carriers(random, &CORNER, &[0; CORNER.len()]);
+    carriers.extend(draw_carriers(random, &elsewhere, &[0]));
     random.shuffle(&mut carriers);
     task(&NARROW, hall, carriers)
 }
 
-/// So many different starts and so many different goals.
-fn draw_ends(random: &mut Random, cells: &[u8], carriers: usize) -> Vec<Carrier> {
+/// A carrier for each slip, with different starts and different goals.
+fn draw_carriers(random: &mut Random, cells: &[u8], slips: &[u8]) -> Vec<Carrier> {
     let mut starts = cells.to_vec();
     let mut goals = cells.to_vec();
     random.shuffle(&mut starts);
     random.shuffle(&mut goals);
-    let ends = starts.into_iter().zip(goals).take(carriers);
-    ends.map(|(start, goal)| Carrier { start, goal }).collect()
+    let records = starts.into_iter().zip(goals).zip(slips);
+    records
+        .map(|((start, goal), &slip)| Carrier { start, goal, slip })
+        .collect()
 }
 
 fn task(shape: &Shape, hall: Vec<u8>, carriers: Vec<Carrier>) -> PlanTask {
@@ -161,7 +171,6 @@ fn task(shape: &Shape, hall: Vec<u8>, carriers: Vec<Carrier>) -> PlanTask {
         width: shape.width,
         height: shape.height,
         carriers,
-        k: shape.k,
         h: shape.h,
         n: CAPACITY,
     }

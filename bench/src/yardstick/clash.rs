@@ -1,8 +1,9 @@
-//! Meetings and swaps, and the one that rule 5 chooses.
+//! Meetings and swaps, and the one that rule 5 chooses, with document 02's P3.
 
 use super::job::MOST_CARRIERS;
+use crate::task::Carrier;
 
-/// A k-delay meeting (i, j, t, D) on a cell, or a swap of i and j at t.
+/// A meeting on a cell or a swap: its smaller step, and the earlier carrier first.
 #[derive(Clone, Copy, Debug)]
 pub struct Clash {
     pub kind: Kind,
@@ -16,33 +17,45 @@ pub enum Kind {
     Swap,
 }
 
-/// The meeting or swap chosen among the routes of a stretch.
-pub fn chosen(stretch: &[u8], h: usize, k: usize) -> Option<Clash> {
-    let mut routes: [&[u8]; MOST_CARRIERS] = [&[]; MOST_CARRIERS];
-    let mut count = 0;
-    for (place, route) in routes.iter_mut().zip(stretch.chunks_exact(h + 1)) {
-        *place = route;
-        count += 1;
+/// A carrier's cells and its slip.
+#[derive(Clone, Copy, Default)]
+struct Route<'a> {
+    cells: &'a [u8],
+    slip: usize,
+}
+
+/// The meeting or swap chosen among the routes of a stretch: "least e, then least
+/// distance of the two steps, then the earlier carrier's number, then the other's".
+pub fn chosen(stretch: &[u8], carriers: &[Carrier]) -> Option<Clash> {
+    let steps = stretch.len() / carriers.len();
+    let mut routes = [Route::default(); MOST_CARRIERS];
+    let routes = &mut routes[..carriers.len()];
+    let own = stretch.chunks_exact(steps).zip(carriers);
+    for (route, (cells, carrier)) in routes.iter_mut().zip(own) {
+        let slip = usize::from(carrier.slip);
+        *route = Route { cells, slip };
     }
-    let routes = &routes[..count];
-    (0..=h).find_map(|step| {
-        let distances = 0..=k.min(h - step);
-        let meeting = distances
-            .into_iter()
-            .find_map(|distance| meeting_at(routes, step, distance));
-        let swaps = k == 0 && step < h;
+    let farthest = routes.iter().map(|route| route.slip).max().unwrap_or(0);
+    let swaps = prompt(routes, 0).count() > 1;
+    (0..steps).find_map(|step| {
+        let mut distances = 0..=farthest.min(steps - 1 - step);
+        let meeting = distances.find_map(|distance| meeting_at(routes, step, distance));
+        let swaps = swaps && step + 1 < steps;
         meeting.or_else(|| if swaps { swap_at(routes, step) } else { None })
     })
 }
 
-/// "i at step t and j at step t + D are on the same cell"; "For D = 0 write the
-/// smaller number first."
-fn meeting_at(routes: &[&[u8]], step: usize, distance: usize) -> Option<Clash> {
+/// Of the two steps the earlier carrier's is the smaller, so that the distance is at
+/// most its slip; "at equal steps the smaller number counts as earlier".
+fn meeting_at(routes: &[Route], step: usize, distance: usize) -> Option<Clash> {
     for (i, route) in routes.iter().enumerate() {
-        let cell = route[step];
+        if distance > route.slip {
+            continue;
+        }
+        let cell = route.cells[step];
         let from = if distance == 0 { i + 1 } else { 0 };
         for (j, other) in routes.iter().enumerate().skip(from) {
-            if other[step + distance] == cell && j != i {
+            if other.cells[step + distance] == cell && j != i {
                 return Some(Clash {
                     kind: Kind::Meeting { cell },
                     step,
@@ -54,11 +67,12 @@ fn meeting_at(routes: &[&[u8]], step: usize, distance: usize) -> Option<Clash> {
     None
 }
 
-/// "between t and t + 1 the two exchange neighbouring cells".
-fn swap_at(routes: &[&[u8]], step: usize) -> Option<Clash> {
-    for (i, route) in routes.iter().enumerate() {
-        for (j, other) in routes.iter().enumerate().skip(i + 1) {
-            if route[step] == other[step + 1] && route[step + 1] == other[step] {
+/// "between t and t + 1 the two exchange neighbouring cells", "only between two
+/// carriers of slip 0".
+fn swap_at(routes: &[Route], step: usize) -> Option<Clash> {
+    for (i, Route { cells, .. }) in prompt(routes, 0) {
+        for (j, Route { cells: others, .. }) in prompt(routes, i + 1) {
+            if cells[step] == others[step + 1] && cells[step + 1] == others[step] {
                 return Some(Clash {
                     kind: Kind::Swap,
                     step,
@@ -68,4 +82,13 @@ fn swap_at(routes: &[&[u8]], step: usize) -> Option<Clash> {
         }
     }
     None
+}
+
+/// The carriers of slip 0, from a number on.
+fn prompt<'a>(
+    routes: &'a [Route<'a>],
+    from: usize,
+) -> impl Iterator<Item = (usize, &'a Route<'a>)> {
+    let numbered = routes.iter().enumerate().skip(from);
+    numbered.filter(|(_, route)| route.slip == 0)
 }

@@ -1,4 +1,4 @@
-//! The barred crossings of a route; with k of 1 or more there are none.
+//! The barred crossings of a route; a carrier that slips has none.
 
 use super::floor::Floor;
 

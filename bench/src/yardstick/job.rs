@@ -6,7 +6,7 @@ use super::records::MOST_RECORDS;
 use crate::task::{Carrier, PlanTask, Tables, Told};
 
 const MOST_SIDE: usize = 16;
-const MOST_DELAY: usize = 4;
+const MOST_SLIP: u8 = 4;
 pub const MOST_HORIZON: usize = 63;
 pub const MOST_CARRIERS: usize = 8;
 
@@ -25,13 +25,13 @@ pub fn refusal(task: &PlanTask, tables: &Tables) -> Option<Told> {
     if !(1..=MOST_CARRIERS).contains(&task.count()) {
         return alone(4);
     }
-    if let Some(carrier) = wrong_ends(task) {
+    if let Some(carrier) = wrong_carrier(task) {
         return Some([5, 0, 0, carrier, 0, 0, 0]);
     }
-    if let Some((carrier, other)) = sharing(task, |ends| ends.start) {
+    if let Some((carrier, other)) = sharing(task, |carrier| carrier.start) {
         return Some([6, 0, 0, carrier, other, 0, 0]);
     }
-    if let Some((carrier, other)) = sharing(task, |ends| ends.goal) {
+    if let Some((carrier, other)) = sharing(task, |carrier| carrier.goal) {
         return Some([16, 0, 0, carrier, other, 0, 0]);
     }
     let (table, needed) = short(task, tables)?;
@@ -52,21 +52,24 @@ pub fn right_hall(hall: &[u8], width: usize, height: usize) -> bool {
 }
 
 fn right_limits(task: &PlanTask) -> bool {
-    task.k <= MOST_DELAY && task.h <= MOST_HORIZON && (1..=MOST_RECORDS).contains(&task.n)
+    task.h <= MOST_HORIZON && (1..=MOST_RECORDS).contains(&task.n)
 }
 
-fn wrong_ends(task: &PlanTask) -> Option<usize> {
+/// The first carrier of which an end is "outside the grid or closed", or the slip
+/// "above 4".
+fn wrong_carrier(task: &PlanTask) -> Option<usize> {
     let open = |cell: u8| task.hall.get(usize::from(cell)) == Some(&OPEN);
-    let mut carriers = task.carriers.iter();
-    carriers.position(|ends| !open(ends.start) || !open(ends.goal))
+    let right =
+        |carrier: &Carrier| open(carrier.start) && open(carrier.goal) && carrier.slip <= MOST_SLIP;
+    task.carriers.iter().position(|carrier| !right(carrier))
 }
 
 /// The first two carriers with one start, or with one goal: "least i, then least
 /// j, i < j".
 fn sharing(task: &PlanTask, end: fn(&Carrier) -> u8) -> Option<(usize, usize)> {
-    task.carriers.iter().enumerate().find_map(|(i, ends)| {
+    task.carriers.iter().enumerate().find_map(|(i, carrier)| {
         let mut behind = task.carriers[i + 1..].iter();
-        let offset = behind.position(|other| end(other) == end(ends))?;
+        let offset = behind.position(|other| end(other) == end(carrier))?;
         Some((i, i + 1 + offset))
     })
 }

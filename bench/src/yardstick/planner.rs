@@ -86,7 +86,7 @@ impl<F: Fill> Search<'_, F> {
         self.plant();
         while let Some(Reverse((sum, node))) = self.open.pop() {
             let stretch = &self.tables.plans[self.stretch(node)..][..self.task.stretch_len()];
-            let Some(clash) = clash::chosen(stretch, self.task.h, self.task.k) else {
+            let Some(clash) = clash::chosen(stretch, &self.task.carriers) else {
                 return Outcome::Plan {
                     sum,
                     records: self.made,
@@ -117,8 +117,9 @@ impl<F: Fill> Search<'_, F> {
 
     /// Rules 6 and 7: a child for each of the two carriers, if it has a route.
     fn grow(&mut self, parent: usize, sum: usize, clash: Clash) -> Result<(), NoRecordLeft> {
-        for carrier in clash.carriers {
-            let bar = self.bar(parent, carrier, clash);
+        let [earlier, other] = clash.carriers;
+        for (carrier, met) in [(earlier, other), (other, earlier)] {
+            let bar = self.bar(parent, carrier, met, clash);
             let cost = self.seek_under(parent, carrier, bar);
             if cost == NONE {
                 continue;
@@ -133,14 +134,15 @@ impl<F: Fill> Search<'_, F> {
         Ok(())
     }
 
-    /// What rule 6 bars a carrier from.
-    fn bar(&self, node: usize, carrier: usize, clash: Clash) -> Bar {
+    /// What rule 6 bars a carrier from, with document 02's P3: "i is barred from e to
+    /// e + slip of j, j from e to e + slip of i".
+    fn bar(&self, node: usize, carrier: usize, met: usize, clash: Clash) -> Bar {
         let step = clash.step;
         match clash.kind {
             Kind::Meeting { cell } => Bar::Stay {
                 cell: usize::from(cell),
                 first: step,
-                last: (step + self.task.k).min(self.task.h),
+                last: (step + usize::from(self.task.carriers[met].slip)).min(self.task.h),
             },
             Kind::Swap => {
                 let route = self.route(node, carrier);

@@ -6,9 +6,9 @@ use mathlib.Core.Path.{_≡_, sym, refl, subst, ap, _∙_}
 use mathlib.Core.List.{List, [], _∷_}
 use lib.ListN.{length, getD, replicate}
 use Rattle.hall.specs.Hall.{wrongSide, wrongGrid, wrongByte, wrongBytes, isOpen}
-use Rattle.job.specs.Job.{Job, wrongLimits, wrongCapacity, wrongCount, wrongEnds, firstWrong, share, pairs, firstShared}
+use Rattle.job.specs.Job.{Job, wrongLimits, wrongCapacity, wrongCount, wrongCarrier, firstWrong, share, pairs, firstShared}
 use Rattle.job.specs.Team.{jobOf}
-use Rattle.job.specs.Verdict.{endsVerdict, sharedVerdict, judgeWith, ifAccepted}
+use Rattle.job.specs.Verdict.{carrierVerdict, sharedVerdict, judgeWith, ifAccepted}
 use Rattle.job.specs.declared.Fault.{Fault}
 use Rattle.routes.specs.Check.{routeVerdict, routeTold}
 use Rattle.clashes.specs.Check.{meetingVerdict, meetingTold}
@@ -36,14 +36,14 @@ five = replicate 5 0
 abbrev six : List ℕ
 six = replicate 6 0
 
--- ---- adfulmise_plan: width 4, height 2, 6→2 and 0→3, k 0, H 3, N 128: sum 6, and two records
+-- ---- adfulmise_plan: width 4, height 2, 6→2 and 0→3 with slips 0, H 3, N 128: sum 6, and two records
 
 abbrev lentLast : Job
-lentLast = jobOf 4 2 (replicate 8 46) (recordsTeam (record { start = 6; goal = 2 } ∷ record { start = 0; goal = 3 } ∷ [])) 0 3
+lentLast = jobOf 4 2 (replicate 8 46) (recordsTeam (record { start = 6; goal = 2; slip = 0 } ∷ record { start = 0; goal = 3; slip = 0 } ∷ [])) 3
 
 lent-last : lentLast ≡ starJob lastJob
 unfolding lastJob
-lent-last = job-padded 4 2 (replicate 8 46) (6 ∷ 0 ∷ []) (2 ∷ 3 ∷ []) 6 2 0 3
+lent-last = job-padded 4 2 (replicate 8 46) (6 ∷ 0 ∷ []) (2 ∷ 3 ∷ []) (0 ∷ 0 ∷ []) 6 2 3
 
 last-told : (r : ℕ) (after : Tables) (given : List ℕ) → Answered lentLast 128 (starTables lastJob) seven r after given → given ≡ 0 ∷ 6 ∷ 2 ∷ 0 ∷ 0 ∷ 0 ∷ 0 ∷ []
 unfolding written lastJob
@@ -64,20 +64,20 @@ pub five-entries-written : (r : ℕ) (after : Tables) → Answered lentLast 128 
 unfolding written
 five-entries-written r after a = let z : _≡_ {A = ℕ} 6 0 = ap (λ (l : List ℕ). getD l 1 0) (a .told) in omega arith
 
--- ---- there, width 2, height 1, 0→1, k 0, H 1, N 3: of four lent tables only the plans are short, and need 6 entries
+-- ---- there, width 2, height 1, 0→1 with slip 0, H 1, N 3: of four lent tables only the plans are short, and need 6 entries
 
 abbrev lentPassing : Job
-lentPassing = jobOf 2 1 (46 ∷ 46 ∷ []) (recordsTeam (record { start = 0; goal = 1 } ∷ [])) 0 1
+lentPassing = jobOf 2 1 (46 ∷ 46 ∷ []) (recordsTeam (record { start = 0; goal = 1; slip = 0 } ∷ [])) 1
 
 abbrev shortPlans : Tables
-shortPlans = record { columns = replicate 24 0; plans = replicate 5 0; layers = replicate 4 0; output = replicate 2 0 }
+shortPlans = record { columns = replicate 24 0; plans = replicate 5 0; layers = replicate 8 0; output = replicate 2 0 }
 
 -- the needed length written in the place of the table
 pub table-and-needed-exchanged : (r : ℕ) (after : Tables) → Answered lentPassing 3 shortPlans seven r after (7 ∷ 0 ∷ 0 ∷ 0 ∷ 0 ∷ 6 ∷ 1 ∷ []) → ⊥
-unfolding range anyOf firstOf each wrongSide wrongGrid wrongByte wrongBytes isOpen wrongLimits wrongCapacity wrongCount wrongEnds firstWrong share pairs firstShared refuseIf endsVerdict sharedVerdict judgeWith ifAccepted firstShort ifLong enough planned written
+unfolding range anyOf firstOf each wrongSide wrongGrid wrongByte wrongBytes isOpen wrongLimits wrongCapacity wrongCount wrongCarrier firstWrong share pairs firstShared refuseIf carrierVerdict sharedVerdict judgeWith ifAccepted firstShort ifLong enough planned written
 table-and-needed-exchanged r after a = let z : _≡_ {A = ℕ} 6 1 = ap (λ (l : List ℕ). getD l 5 0) (a .told) in omega arith
 
--- ---- adfulmise_check_routes and adfulmise_check_meetings: width 3, height 1, 0→1 and 1→2, k 1, H 1
+-- ---- adfulmise_check_routes and adfulmise_check_meetings: width 3, height 1, 0→1 and 1→2, both with slip 1, H 1
 
 -- where there is a fault: 0 given back; nothing told beside the number; and the number written where there is no room for all
 module _ (fault : Fault) (found : fault .number ≡ 0 → ⊥) where
@@ -110,14 +110,14 @@ nothing-told-of-meetings = nothing-told (meetingTold (meetingVerdict lentCrossin
 pub six-entries-written-for-meetings : (r : ℕ) (given : List ℕ) → getD given 0 0 ≡ meetingTold (meetingVerdict lentCrossing followed) .number → Checked (meetingTold (meetingVerdict lentCrossing followed)) six r given → ⊥
 six-entries-written-for-meetings = six-entries-written (meetingTold (meetingVerdict lentCrossing followed)) (lent-always-passes-meetings (meetingVerdict lentCrossing followed) refl)
 
--- ---- adfulmise_read: the carriers of the printed book, four bytes from byte 27
+-- ---- adfulmise_read: the carriers of the printed book, six bytes from byte 27
 
 -- where the body ends told for its length
-pub end-for-length : (r : ℕ) → Read printedBook 2 (0 ∷ 0 ∷ []) r (27 ∷ 31 ∷ []) → ⊥
+pub end-for-length : (r : ℕ) → Read printedBook 2 (0 ∷ 0 ∷ []) r (27 ∷ 33 ∷ []) → ⊥
 unfolding written
 end-for-length r p =
-    let told : 31 ≡ length (bodyOf printedBook 2) = ap (λ (l : List ℕ). getD l 1 0) (p .place) in
-    let z : _≡_ {A = ℕ} 31 4 = told ∙ ap length printed-carriers in omega arith
+    let told : 33 ≡ length (bodyOf printedBook 2) = ap (λ (l : List ℕ). getD l 1 0) (p .place) in
+    let z : _≡_ {A = ℕ} 33 6 = told ∙ ap length printed-carriers in omega arith
 
 -- a refusal, of no bytes at all, with the place where the first body would begin
 pub refusal-with-a-place : (r : ℕ) → Read [] 1 (0 ∷ 0 ∷ []) r (16 ∷ 0 ∷ []) → ⊥

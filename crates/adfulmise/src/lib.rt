@@ -56,7 +56,6 @@ pub extern "C" fn adfulmise_plan(
     width: usize,
     height: usize,
     carriers: &[Carrier],
-    k: usize,
     h: usize,
     n: usize,
     columns: &mut [u16],
@@ -65,14 +64,13 @@ pub extern "C" fn adfulmise_plan(
     output: &mut [u8],
     told: &mut [usize],
 ) -> usize
-    ensures { λ r. ⌜ Answered (jobOf width height (now (hall .entry)) (recordsTeam (now (carriers .entry))) k h) n (record { columns = now (columns .entry); plans = now (plans .entry); layers = now (layers .entry); output = now (output .entry) }) (now (told .entry)) r (record { columns = now (columns .exit); plans = now (plans .exit); layers = now (layers .exit); output = now (output .exit) }) (now (told .exit)) ⌝ }
+    ensures { λ r. ⌜ Answered (jobOf width height (now (hall .entry)) (recordsTeam (now (carriers .entry))) h) n (record { columns = now (columns .entry); plans = now (plans .entry); layers = now (layers .entry); output = now (output .entry) }) (now (told .entry)) r (record { columns = now (columns .exit); plans = now (plans .exit); layers = now (layers .exit); output = now (output .exit) }) (now (told .exit)) ⌝ }
 {
     let answer = entry::plan(
         hall,
         width,
         height,
         carriers,
-        k,
         h,
         n,
         columns,
@@ -123,14 +121,13 @@ pub extern "C" fn adfulmise_check_routes(
     width: usize,
     height: usize,
     carriers: &[Carrier],
-    k: usize,
     h: usize,
     plan: &[u8],
     told: &mut [usize],
 ) -> usize
-    ensures { λ r. ⌜ Checked (routeTold (routeVerdict (jobOf width height (now (hall .entry)) (recordsTeam (now (carriers .entry))) k h) (now (plan .entry)))) (now (told .entry)) r (now (told .exit)) ⌝ }
+    ensures { λ r. ⌜ Checked (routeTold (routeVerdict (jobOf width height (now (hall .entry)) (recordsTeam (now (carriers .entry))) h) (now (plan .entry)))) (now (told .entry)) r (now (told .exit)) ⌝ }
 {
-    let verdict = entry::check_routes(hall, width, height, carriers, k, h, plan);
+    let verdict = entry::check_routes(hall, width, height, carriers, h, plan);
     tell_routes(verdict, told)
 }
 
@@ -141,14 +138,13 @@ pub extern "C" fn adfulmise_check_meetings(
     width: usize,
     height: usize,
     carriers: &[Carrier],
-    k: usize,
     h: usize,
     plan: &[u8],
     told: &mut [usize],
 ) -> usize
-    ensures { λ r. ⌜ Checked (meetingTold (meetingVerdict (jobOf width height (now (hall .entry)) (recordsTeam (now (carriers .entry))) k h) (now (plan .entry)))) (now (told .entry)) r (now (told .exit)) ⌝ }
+    ensures { λ r. ⌜ Checked (meetingTold (meetingVerdict (jobOf width height (now (hall .entry)) (recordsTeam (now (carriers .entry))) h) (now (plan .entry)))) (now (told .entry)) r (now (told .exit)) ⌝ }
 {
-    let verdict = entry::check_meetings(hall, width, height, carriers, k, h, plan);
+    let verdict = entry::check_meetings(hall, width, height, carriers, h, plan);
     tell_meetings(verdict, told)
 }
 

@@ -9,7 +9,7 @@ use lib.Dec.{eqb}
 use lib.ListN.{length, getD}
 use Rattle.lists.specs.Lists.{refuseIf}
 use Rattle.book.specs.declared.BookVerdict.the-variants.{Good, NoContents, WrongKinds, WrongBodies, WrongLengths}
-use Rattle.book.specs.Book.{entryKind, entryOffset, bodyEnd, entryBody, noContents, wrongKinds, wrongBodies, hallUnderTwo, carriersOdd, limitsNotTwo, wrongLengths, bookVerdict}
+use Rattle.book.specs.Book.{entryKind, entryOffset, bodyEnd, entryBody, noContents, wrongKinds, wrongBodies, hallUnderTwo, carriersNotThrees, limitsNotOne, wrongLengths, bookVerdict}
 
 module _ (book : List ℕ) where
   -- ---- 12, over the numbers that the callees gave
@@ -56,11 +56,11 @@ module _ (book : List ℕ) where
   unfolding wrongLengths
   lengths-first h = rw h
 
-  pub lengths-second : hallUnderTwo (entryBody book 1) ≡ false → carriersOdd (entryBody book 2) ≡ true → true ≡ wrongLengths book
+  pub lengths-second : hallUnderTwo (entryBody book 1) ≡ false → carriersNotThrees (entryBody book 2) ≡ true → true ≡ wrongLengths book
   unfolding wrongLengths
   lengths-second h c = rw (h, c)
 
-  pub lengths-third : hallUnderTwo (entryBody book 1) ≡ false → carriersOdd (entryBody book 2) ≡ false → limitsNotTwo (entryBody book 3) ≡ wrongLengths book
+  pub lengths-third : hallUnderTwo (entryBody book 1) ≡ false → carriersNotThrees (entryBody book 2) ≡ false → limitsNotOne (entryBody book 3) ≡ wrongLengths book
   unfolding wrongLengths
   lengths-third h c = rw (h, c)
 

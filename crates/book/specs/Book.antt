@@ -92,18 +92,19 @@ wrongBodies book =
     || not (eqb (entryOffset book 3) (bodyEnd book 2))
     || not (eqb (bodyEnd book 3) (length book))
 
--- 14: 'hall body under 2 bytes, carriers body of odd length, or limits body not 2 bytes'
+-- 14: 'hall body under 2 bytes, carriers body of odd length, or limits body not 2 bytes', of which P3 changes the last two: 'The carriers
+-- body has 3 bytes for each carrier, the limits body only H', and '14 reads the new lengths'
 abbrev pub hallUnderTwo : List ℕ → Bool
 hallUnderTwo body = ltb (length body) 2
 
-abbrev pub carriersOdd : List ℕ → Bool
-carriersOdd body = eqb (length body % 2) 1
+abbrev pub carriersNotThrees : List ℕ → Bool
+carriersNotThrees body = not (eqb (length body % 3) 0)
 
-abbrev pub limitsNotTwo : List ℕ → Bool
-limitsNotTwo body = not (eqb (length body) 2)
+abbrev pub limitsNotOne : List ℕ → Bool
+limitsNotOne body = not (eqb (length body) 1)
 
 unfoldable pub wrongLengths : List ℕ → Bool
-wrongLengths book = hallUnderTwo (entryBody book 1) || carriersOdd (entryBody book 2) || limitsNotTwo (entryBody book 3)
+wrongLengths book = hallUnderTwo (entryBody book 1) || carriersNotThrees (entryBody book 2) || limitsNotOne (entryBody book 3)
 
 -- 'Reader answers, lowest first': 11 to 14
 unfoldable pub bookVerdict : List ℕ → BookVerdict

@@ -5,7 +5,7 @@ ghost use mathlib.Core.Bool.{false};
 ghost use Prim.Native.Nat.{_+_, _<_, _≤_};
 ghost use lib.ListN.{length};
 ghost use Rattle.lists.specs.Lists.{refuseIf};
-ghost use Rattle.book.specs.Book.{bookNumber, entryAt, lowHigh, entryKind, entryOffset, entryLength, bodyEnd, wrongKinds, wrongBodies, hallUnderTwo, carriersOdd, limitsNotTwo, wrongLengths, noKind, bookVerdict, askedVerdict};
+ghost use Rattle.book.specs.Book.{bookNumber, entryAt, lowHigh, entryKind, entryOffset, entryLength, bodyEnd, wrongKinds, wrongBodies, hallUnderTwo, carriersNotThrees, limitsNotOne, wrongLengths, noKind, bookVerdict, askedVerdict};
 ghost use Rattle.book.specs.Handed.{Handed};
 
 // What the reader says, the lowest number first.
@@ -37,10 +37,12 @@ pub const CARRIERS: u8 = 2;
 
 pub const LIMITS: u8 = 3;
 
-// width and height; k and H
+// width and height; start, goal and slip; only H
 const HALL_LEAST: usize = 2;
 
-const LIMITS_LENGTH: usize = 2;
+const CARRIER_LENGTH: usize = 3;
+
+const LIMITS_LENGTH: usize = 1;
 
 // The number of each answer.
 pub fn book_number(verdict: BookVerdict) -> usize
@@ -133,7 +135,8 @@ fn wrong_bodies(book: &[u8]) -> bool
     body_end(book, 3) != book.len()
 }
 
-// 14: 'hall body under 2 bytes, carriers body of odd length, or limits body not 2 bytes', a parser for each body
+// 14: 'hall body under 2 bytes'; P3: 'The carriers body has 3 bytes for each carrier, the limits body only H', '14 reads the new
+// lengths'. A parser for each body.
 fn hall_body_wrong(body: &[u8]) -> bool
     ensures { λ r. ⌜ r ≡ hallUnderTwo (now (body .entry)) ⌝ }
 {
@@ -141,13 +144,13 @@ fn hall_body_wrong(body: &[u8]) -> bool
 }
 
 fn carriers_body_wrong(body: &[u8]) -> bool
-    ensures { λ r. ⌜ r ≡ carriersOdd (now (body .entry)) ⌝ }
+    ensures { λ r. ⌜ r ≡ carriersNotThrees (now (body .entry)) ⌝ }
 {
-    body.len() % 2 == 1
+    body.len() % CARRIER_LENGTH != 0
 }
 
 fn limits_body_wrong(body: &[u8]) -> bool
-    ensures { λ r. ⌜ r ≡ limitsNotTwo (now (body .entry)) ⌝ }
+    ensures { λ r. ⌜ r ≡ limitsNotOne (now (body .entry)) ⌝ }
 {
     body.len() != LIMITS_LENGTH
 }

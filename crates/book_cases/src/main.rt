@@ -3,8 +3,8 @@
 ghost use Prim.Native.Nat.{_<_};
 use libc::STDOUT_FILENO;
 
-// The book that document 01 prints: bodies of 11, 4 and 2 bytes.
-fn printed() -> [u8; 33] {
+// The book that document 01 prints, as P3 has it rewritten: bodies of 11, 6 and 1 bytes.
+fn printed() -> [u8; 34] {
     [
         3,
         1,
@@ -15,12 +15,12 @@ fn printed() -> [u8; 33] {
         2,
         27,
         0,
-        4,
+        6,
         0,
         3,
-        31,
+        33,
         0,
-        2,
+        1,
         0,
         3,
         3,
@@ -35,6 +35,7 @@ fn printed() -> [u8; 33] {
         46,
         3,
         5,
+        0,
         1,
         7,
         0,
@@ -68,7 +69,7 @@ fn cut(name: &[u8], size: usize, kind: u8) {
 
 // The printed book with one byte changed.
 fn changed(name: &[u8], at: usize, value: u8, kind: u8)
-    requires { ⌜ at < 33 ⌝ }
+    requires { ⌜ at < 34 ⌝ }
 {
     let mut bytes = printed();
     bytes[at] = value;
@@ -86,9 +87,10 @@ fn divided(name: &[u8], size: usize, lengths: [u8; 3], offsets: [u8; 2], kind: u
     show_first(name, &bytes, size, kind);
 }
 
-// A hall's body of 258 bytes: its length, 2 + 256, and the offsets after it need their high bytes.
+// As long a book as a right job can have: bodies of 258, 24 and 1 bytes, 299 bytes in all. The hall's length, 2 + 256, and the
+// offsets after it need their high bytes.
 fn long(name: &[u8], high: u8, kind: u8) {
-    let mut bytes = [0u8; 280];
+    let mut bytes = [0u8; 299];
     bytes[0] = 3;
     bytes[1] = 1;
     bytes[2] = 16;
@@ -97,23 +99,25 @@ fn long(name: &[u8], high: u8, kind: u8) {
     bytes[6] = 2;
     bytes[7] = 18;
     bytes[8] = 1;
-    bytes[9] = 4;
+    bytes[9] = 24;
     bytes[11] = 3;
-    bytes[12] = 22;
+    bytes[12] = 42;
     bytes[13] = 1;
-    bytes[14] = 2;
+    bytes[14] = 1;
     show(name, &bytes, kind);
 }
 
 fn good() {
-    cut(b"printed book, kind 1", 33, 1);
-    cut(b"printed book, kind 2", 33, 2);
-    cut(b"printed book, kind 3", 33, 3);
-    divided(b"no carriers, kind 1", 33, [15, 0, 2], [31, 31], 1);
-    divided(b"no carriers, kind 2", 33, [15, 0, 2], [31, 31], 2);
-    divided(b"hall body of 2 bytes", 32, [2, 12, 2], [18, 30], 1);
-    divided(b"least book, kind 1", 20, [2, 0, 2], [18, 18], 1);
-    divided(b"least book, kind 3", 20, [2, 0, 2], [18, 18], 3);
+    cut(b"printed book, kind 1", 34, 1);
+    cut(b"printed book, kind 2", 34, 2);
+    cut(b"printed book, kind 3", 34, 3);
+    divided(b"no carriers, kind 1", 34, [17, 0, 1], [33, 33], 1);
+    divided(b"no carriers, kind 2", 34, [17, 0, 1], [33, 33], 2);
+    divided(b"hall body of 2 bytes", 34, [2, 15, 1], [18, 33], 1);
+    divided(b"carriers body of 3 bytes", 34, [14, 3, 1], [30, 33], 2);
+    divided(b"limits body of 1 byte", 34, [14, 3, 1], [30, 33], 3);
+    divided(b"least book, kind 1", 19, [2, 0, 1], [18, 18], 1);
+    divided(b"least book, kind 3", 19, [2, 0, 1], [18, 18], 3);
     long(b"258 bytes, kind 1", 1, 1);
     long(b"258 bytes, kind 2", 1, 2);
 }
@@ -135,38 +139,40 @@ fn wrong_kinds() {
 
 fn wrong_bodies() {
     cut(b"16 bytes", 16, 1);
-    cut(b"last byte lacks", 32, 1);
+    cut(b"last byte lacks", 33, 1);
     changed(b"first body at 15", 2, 15, 1);
     changed(b"first body at 17", 2, 17, 1);
     changed(b"first body at 272", 3, 1, 1);
     changed(b"gap before the second", 7, 28, 2);
     changed(b"overlap with the first", 7, 26, 2);
-    changed(b"gap before the third", 12, 32, 3);
-    changed(b"byte after the last body", 14, 1, 3);
-    changed(b"last body past the end", 14, 3, 3);
-    changed(b"odd second body, and a gap", 9, 3, 2);
+    changed(b"gap before the third", 12, 34, 3);
+    changed(b"byte after the last body", 14, 0, 3);
+    changed(b"last body past the end", 14, 2, 3);
+    changed(b"second body of 5 bytes, and a gap", 9, 5, 2);
     long(b"258 bytes, high byte 0", 0, 1);
 }
 
 fn wrong_lengths() {
-    divided(b"no hall body", 33, [0, 15, 2], [16, 31], 1);
-    divided(b"hall body of 1 byte", 33, [1, 14, 2], [17, 31], 2);
-    divided(b"carriers body of 3 bytes", 33, [12, 3, 2], [28, 31], 2);
-    divided(b"no limits body", 33, [11, 6, 0], [27, 33], 1);
-    divided(b"limits body of 1 byte", 33, [12, 4, 1], [28, 32], 1);
+    divided(b"no hall body", 32, [0, 15, 1], [16, 31], 1);
+    divided(b"hall body of 1 byte", 33, [1, 15, 1], [17, 32], 2);
+    divided(b"carriers body of 1 byte", 34, [16, 1, 1], [32, 33], 2);
+    divided(b"carriers body of 2 bytes", 34, [15, 2, 1], [31, 33], 2);
+    divided(b"carriers body of 4 bytes", 34, [13, 4, 1], [29, 33], 2);
+    divided(b"no limits body", 34, [12, 6, 0], [28, 34], 1);
+    divided(b"limits body of 2 bytes", 34, [10, 6, 2], [26, 32], 1);
     divided(
         b"limits body of 3 bytes, asked for 9",
-        33,
-        [12, 2, 3],
-        [28, 30],
+        34,
+        [9, 6, 3],
+        [25, 31],
         9,
     );
 }
 
 fn no_kind() {
-    cut(b"asked for 0", 33, 0);
-    cut(b"asked for 4", 33, 4);
-    cut(b"asked for 255", 33, 255);
+    cut(b"asked for 0", 34, 0);
+    cut(b"asked for 4", 34, 4);
+    cut(b"asked for 255", 34, 255);
 }
 
 fn main() {

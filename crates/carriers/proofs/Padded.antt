@@ -15,17 +15,18 @@ pub place-read : (f : ℕ → ℕ) (i : ℕ) → i < 8 → getD (map f eight) i 
 unfolding range
 place-read f i l = let e : 0 + i ≡ i = omega arith in getD-mapped f 0 0 8 i l ∙ ap f e
 
-pub job-padded : (width height : ℕ) (bytes starts goals : List ℕ) (n count k h : ℕ)
-    → jobOf width height bytes (record { starts = starts ++ replicate n 0; goals = goals ++ replicate n 0; count = count }) k h
+pub job-padded : (width height : ℕ) (bytes starts goals slips : List ℕ) (n count h : ℕ)
+    → jobOf width height bytes (record { starts = starts ++ replicate n 0; goals = goals ++ replicate n 0; slips = slips ++ replicate n 0; count = count }) h
     ≡ record {
       hall = record { width = width; height = height; bytes = bytes };
       count = count;
       startOf = λ i. getD starts i 0;
       goalOf = λ i. getD goals i 0;
-      delay = k;
+      slipOf = λ i. getD slips i 0;
       horizon = h;
     }
-job-padded width height bytes starts goals n count k h =
+job-padded width height bytes starts goals slips n count h =
     let s : _≡_ {A = ℕ → ℕ} (λ i. getD (starts ++ replicate n 0) i 0) (λ i. getD starts i 0) = fun-ext (zeros-past-the-end starts n) in
     let g : _≡_ {A = ℕ → ℕ} (λ i. getD (goals ++ replicate n 0) i 0) (λ i. getD goals i 0) = fun-ext (zeros-past-the-end goals n) in
+    let l : _≡_ {A = ℕ → ℕ} (λ i. getD (slips ++ replicate n 0) i 0) (λ i. getD slips i 0) = fun-ext (zeros-past-the-end slips n) in
     cc

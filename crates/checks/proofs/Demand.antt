@@ -2,7 +2,7 @@
 -- finds nothing exactly if no two carriers meet or swap, which is to survive every pattern of holds. Assumes nothing.
 use Prim.Native.Nat.{ℕ, _+_, _-_, _*_, _≤_, _<_}
 use native.Mathlib.Omega.{arith}
-use native.Mathlib.Nat.{le-refl, mul-le-mul-right}
+use native.Mathlib.Nat.{mul-le-mul-right}
 use mathlib.Core.Path.{_≡_, refl, sym, ap, ap₂, _∙_}
 use mathlib.Core.Logic.{_↔_, _⊎_, inl, inr}
 use mathlib.Core.Bool.{Bool, true, false, not, _&&_, _||_}
@@ -17,7 +17,7 @@ use Rattle.lists.proofs.Tests.{is-false, of-false}
 use Rattle.lists.proofs.Every.{every-member, member-every}
 use Rattle.lists.proofs.Members.{member-each, each-member, member-map, map-member, member-range, range-member}
 use Rattle.lists.proofs.Passing.{FirstFact, first-fact}
-use Rattle.job.specs.Job.{Job, slipOf, mostSlip, planLength, planCell}
+use Rattle.job.specs.Job.{Job, planLength, planCell}
 use Rattle.job.specs.Verdict.{IsAccepted, judge, ifAccepted}
 use Rattle.job.proofs.Refused.{accepts-or-not, zero-accepted, if-accepted, if-refused}
 use Rattle.routes.specs.Route.{Lawful, cellOf, routeIn}
@@ -25,7 +25,7 @@ use Rattle.routes.specs.Check.{Place, places, wrongMove, wrongArrival, wrongAt,
 use Rattle.routes.specs.declared.RouteVerdict.{RouteVerdict}
 use Rattle.routes.specs.declared.RouteVerdict.the-variants.{Lawful as LawfulPlan, Refused, Short}
 use Rattle.routes.proofs.Lawful.{right-everywhere-lawful}
-use Rattle.clashes.specs.Check.{planClash, compared, meetingVerdict, meetingTold, clashTold}
+use Rattle.clashes.specs.Check.{planTravel, planClash, compared, meetingVerdict, meetingTold, clashTold}
 use Rattle.clashes.specs.declared.Clash.{Clash}
 use Rattle.clashes.specs.declared.Clash.the-variants.{Clear, Meeting, Swap}
 use Rattle.clashes.specs.declared.MeetingVerdict.{MeetingVerdict}
@@ -151,9 +151,6 @@ module _ (job : Job) (plan : List ℕ) (accepted : IsAccepted job) (long : planL
 
   -- ---- the meeting check
 
-  slips : (i : ℕ) → i < job .count → slipOf job i ≤ mostSlip job
-  slips i l = le-refl (job .delay)
-
   clash-clear : (c : Clash) → clashTold c .number ≡ 0 → c ≡ Clear
   clash-clear Clear e = refl
   clash-clear (Meeting i j t d) e = absurd (let z : _≡_ {A = ℕ} 22 0 = e in omega arith)
@@ -162,15 +159,15 @@ module _ (job : Job) (plan : List ℕ) (accepted : IsAccepted job) (long : planL
   zero-says-safe : meetingTold (meetingVerdict job plan) .number ≡ 0 → Safe job plan
   unfolding planClash
   zero-says-safe e =
-      apart-survives (planCell job plan) (slipOf job) (job .horizon) (job .count)
-      (clear-apart (planCell job plan) (slipOf job) (mostSlip job) (job .horizon) (job .count) slips
+      apart-survives (planTravel job plan) (job .count)
+      (clear-apart (planTravel job plan) (job .count)
       (clash-clear (planClash job plan) (ap (λ (v : MeetingVerdict). meetingTold v .number) (sym meeting-verdict) ∙ e)))
 
   safe-says-clear : Safe job plan → meetingVerdict job plan ≡ Compared Clear
   unfolding planClash
   safe-says-clear s =
       meeting-verdict
-      ∙ ap Compared (apart-clear (planCell job plan) (slipOf job) (mostSlip job) (job .horizon) (job .count) slips (survives-apart (planCell job plan) (slipOf job) (job .horizon) (job .count) s))
+      ∙ ap Compared (apart-clear (planTravel job plan) (job .count) (survives-apart (planTravel job plan) (job .count) s))
 
 -- ---- demand 3
 

@@ -6,11 +6,12 @@ use mathlib.Core.Path.{_≡_, sym, subst, _∙_}
 use mathlib.Core.Logic.{_↔_, _⊎_, inl, inr, ⊎-elim}
 use mathlib.Core.List.{List}
 use Rattle.hall.specs.Near.{Neighbours}
-use Rattle.job.specs.Job.{Job, slipOf, planCell}
+use Rattle.job.specs.Job.{Job, planCell}
 use Rattle.job.specs.Verdict.{IsAccepted}
 use Rattle.routes.specs.Route.{cellOf, routeIn}
 use Rattle.routes.proofs.Lawful.{lawful-step}
 use Rattle.clashes.specs.Clash.{Meets}
+use Rattle.clashes.specs.Check.{planTravel}
 use Rattle.clashes.proofs.Near.{survives-near, near-survives}
 use Rattle.checks.specs.Demand.{LawfulRoutes, Passes, Safe, SafeNear}
 use Rattle.checks.proofs.Demand.{route-cell, plan-check-exact}
@@ -23,7 +24,7 @@ module _ (job : Job) (plan : List ℕ) (law : LawfulRoutes job plan) where
       (lawful-step job i (routeIn (job .horizon) plan i) (law .lawful i li) t lt))
 
   -- i leaves at t what j comes to at t + 1, as both do in an exchange: the two are neighbours at t, or they meet there
-  pub exchange-neighbours : (i j t : ℕ) → i < job .count → j < job .count → (i ≡ j → ⊥) → t + 1 ≤ job .horizon → planCell job plan i t ≡ planCell job plan j (t + 1) → Neighbours (job .hall .width) (planCell job plan i t) (planCell job plan j t) ⊎ Meets (planCell job plan) (slipOf job) (job .horizon) i j t 0
+  pub exchange-neighbours : (i j t : ℕ) → i < job .count → j < job .count → (i ≡ j → ⊥) → t + 1 ≤ job .horizon → planCell job plan i t ≡ planCell job plan j (t + 1) → Neighbours (job .hall .width) (planCell job plan i t) (planCell job plan j t) ⊎ Meets (planTravel job plan) i j t 0
   exchange-neighbours i j t li lj ne inside there =
       let e : t + 0 ≡ t = omega arith in
       ⊎-elim
@@ -35,8 +36,8 @@ module _ (job : Job) (plan : List ℕ) (law : LawfulRoutes job plan) where
 
 pub safe-near : (job : Job) (plan : List ℕ) → LawfulRoutes job plan → Safe job plan ↔ SafeNear job plan
 safe-near job plan law = (
-  survives-near (Neighbours (job .hall .width)) (planCell job plan) (slipOf job) (job .horizon) (job .count),
-  near-survives (Neighbours (job .hall .width)) (planCell job plan) (slipOf job) (job .horizon) (job .count) (plan-step job plan law),
+  survives-near (Neighbours (job .hall .width)) (planTravel job plan) (job .count),
+  near-survives (Neighbours (job .hall .width)) (planTravel job plan) (job .count) (plan-step job plan law),
 )
 
 pub plan-check-exact-near : (job : Job) (plan : List ℕ) → IsAccepted job → LawfulRoutes job plan → Passes job plan ↔ SafeNear job plan

@@ -11,11 +11,11 @@ use lib.Seq.{getD-take, length-take-le, take-all}
 use Rattle.lists.proofs.Every.{member-every}
 use Rattle.lists.proofs.Parts.{part-within}
 use Rattle.lists.proofs.Passing.{first-same}
-use Rattle.job.specs.Job.{Job, slipOf, mostSlip, planLength, planCell}
+use Rattle.job.specs.Job.{Job, planLength, planCell}
 use Rattle.job.specs.Verdict.{judge, ifAccepted}
 use Rattle.routes.specs.Check.{places, wrongAt, firstWrongPlace, placeVerdict, planVerdict, routeVerdict}
 use Rattle.routes.specs.declared.RouteVerdict.the-variants.{Refused}
-use Rattle.clashes.specs.Check.{planClash, compared, meetingVerdict}
+use Rattle.clashes.specs.Check.{planTravel, planClash, compared, meetingVerdict}
 use Rattle.clashes.specs.declared.MeetingVerdict.the-variants.{Compared, Refused as NotCompared}
 use Rattle.clashes.proofs.Same.{chosen-same}
 use Rattle.checks.proofs.Demand.{wrong-same, placed}
@@ -41,7 +41,7 @@ module _ (job : Job) (plan : List ℕ) where
 
   same-clash : planClash job plan ≡ planClash job front
   unfolding planClash
-  same-clash = chosen-same (planCell job plan) (planCell job front) (slipOf job) (mostSlip job) (job .horizon) (job .count) same-cell
+  same-clash = chosen-same (planTravel job plan) (planCell job front) (job .count) same-cell
 
   -- a plan that is long enough, and so its front
   module _ (long : planLength job ≤ length plan) where

@@ -2,16 +2,16 @@
 -- definition gives where its tests came out so. Assumes nothing.
 use Prim.Native.Nat.{ℕ, _+_, _-_, _*_, _≤_, _<_}
 use native.Mathlib.Omega.{arith}
-use mathlib.Core.Path.{_≡_, refl, sym, ap, _∙_}
+use mathlib.Core.Path.{_≡_, sym, ap, _∙_}
 use mathlib.Core.Bool.{Bool, true, false, not}
-use mathlib.Core.List.{List, map}
+use mathlib.Core.List.{List, [], map}
 use mathlib.Core.Option.{Option, none, some}
 use lib.Dec.{eqb}
 use lib.ListN.{length, getD}
 use borrow.Author.Tests.{eq-eqb, ne-eqb, lt-ltb, le-ltb}
 use Rattle.lists.specs.Lists.{range, each, anyOf, firstOf}
 use Rattle.hall.specs.Moves.{mayFollow}
-use Rattle.job.specs.Job.{Job, planLength, planCell, mostDelay, mostHorizon, mostCarriers}
+use Rattle.job.specs.Job.{Job, planLength, planCell}
 use Rattle.job.specs.Team.{jobOf}
 use Rattle.job.specs.Verdict.{judge, judgeWith}
 use Rattle.job.specs.declared.Team.{Team}
@@ -26,16 +26,17 @@ use Rattle.clashes.specs.Find.{firstClash, Whole, Within}
 use Rattle.clashes.specs.declared.Clash.{Clash}
 use Rattle.clashes.specs.declared.MeetingVerdict.the-variants.{Refused as RefusedJob, Short as ShortPlan, Compared}
 use Rattle.clashes.proofs.Compared.{whole-within}
-use Rattle.checks.specs.Walk.{Limits, Ready, placeOf, wrongPlace, placesOf, placeFound, comparedAt}
+use Rattle.checks.specs.Walk.{Limits, Ready, TeamLimits, placeOf, wrongPlace, placesOf, placeFound, comparedAt}
 use Rattle.checks.specs.declared.Found.{Found}
 use Rattle.checks.specs.declared.Found.the-variants.{Nowhere, Place as PlaceAt}
 
 -- ---- bytes
 
+-- where a byte stands does not depend on the slips
 pub byte-within : (job : Job) (plan : List ℕ) → Ready job plan → (i t : ℕ) → i < job .count → t ≤ job .horizon → Within plan (job .horizon) i t
 byte-within job plan r =
-    whole-within plan (job .count) 0 (job .horizon)
-    (record { few = r .limits .countMost; slow = omega arith; short = r .limits .horizonMost; whole = r .whole })
+    whole-within plan [] (job .count) (job .horizon)
+    (record { few = r .limits .countMost; slow = λ i l. omega arith; short = r .limits .horizonMost; whole = r .whole })
 
 -- ---- one place of a route
 
@@ -111,24 +112,24 @@ pub some-wrong : (o : Option Place) (i t : ℕ) → o ≡ some (placeOf i t) →
 unfolding placeVerdict
 some-wrong o i t e = rw e
 
-module _ (plan : List ℕ) (count k h needed : ℕ) (told : needed ≡ count * (h + 1)) where
-  pub compared-short : length plan < needed → ShortPlan needed ≡ comparedAt plan count k h
+module _ (plan : List ℕ) (team : Team) (h needed : ℕ) (told : needed ≡ team .count * (h + 1)) where
+  pub compared-short : length plan < needed → ShortPlan needed ≡ comparedAt plan team h
   unfolding comparedAt
-  compared-short less = rw (told, comparedAt, lt-ltb (length plan) (count * (h + 1)) (omega arith))
+  compared-short less = rw (told, comparedAt, lt-ltb (length plan) (team .count * (h + 1)) (omega arith))
 
-  pub compared-whole : count ≤ mostCarriers → k ≤ mostDelay → h ≤ mostHorizon → needed ≤ length plan → Whole plan count k h
-  compared-whole few slow early long = record { few = few; slow = slow; short = early; whole = omega arith }
+  pub compared-whole : TeamLimits team h → needed ≤ length plan → Whole plan (team .slips) (team .count) h
+  compared-whole l long = record { few = l .countMost; slow = l .slipMost; short = l .horizonMost; whole = omega arith }
 
-  pub compared-clash : needed ≤ length plan → (c : Clash) → c ≡ firstClash plan count k h → Compared c ≡ comparedAt plan count k h
+  pub compared-clash : needed ≤ length plan → (c : Clash) → c ≡ firstClash plan team h → Compared c ≡ comparedAt plan team h
   unfolding comparedAt
-  compared-clash long c found = rw (comparedAt, le-ltb (length plan) (count * (h + 1)) (omega arith), found)
+  compared-clash long c found = rw (comparedAt, le-ltb (length plan) (team .count * (h + 1)) (omega arith), found)
 
 -- ---- the checks; v is what checks 1 to 6 and 16 said
 
-pub accepted-limits : (job : Job) (v : Verdict) → v ≡ judgeWith false job → v ≡ Accepted → Limits job × (job .delay ≤ mostDelay)
+pub accepted-limits : (job : Job) (v : Verdict) → v ≡ judgeWith false job → v ≡ Accepted → Limits job
 accepted-limits job v told e =
     let f = accepted-facts false job (sym told ∙ e) in
-    (record { widthLeast = f .widthLeast; widthMost = f .widthMost; heightMost = f .heightMost; countMost = f .countMost; horizonMost = f .horizonMost }, f .delayMost)
+    record { widthLeast = f .widthLeast; widthMost = f .widthMost; heightMost = f .heightMost; countMost = f .countMost; horizonMost = f .horizonMost }
 
 module _ (job : Job) (plan : List ℕ) (v : Verdict) (told : v ≡ judgeWith false job) where
   pub routes-accepted : v ≡ Accepted → planVerdict job plan ≡ routeVerdict job plan
@@ -139,15 +140,20 @@ module _ (job : Job) (plan : List ℕ) (v : Verdict) (told : v ≡ judgeWith fal
   unfolding routeVerdict judge
   routes-refused tag = rw (← told) (sym (if-refused v (planVerdict job plan) (Refused v) (refusal-refuses v tag)))
 
-  pub meetings-accepted : v ≡ Accepted → comparedAt plan (job .count) (job .delay) (job .horizon) ≡ meetingVerdict job plan
-  unfolding meetingVerdict judge comparedAt compared planClash
-  meetings-accepted e = sym (if-accepted (judgeWith false job) (compared job plan) (RefusedJob (judgeWith false job)) (sym told ∙ e))
-
   pub meetings-refused : Refusal v → RefusedJob v ≡ meetingVerdict job plan
   unfolding meetingVerdict judge
   meetings-refused tag = rw (← told) (sym (if-refused v (compared job plan) (RefusedJob v) (refusal-refuses v tag)))
 
--- the route check does not look at k
-pub routes-any-delay : (width height : ℕ) (bytes : List ℕ) (team : Team) (k h : ℕ) (plan : List ℕ) → planVerdict (jobOf width height bytes team 0 h) plan ≡ planVerdict (jobOf width height bytes team k h) plan
-unfolding planVerdict firstWrongPlace wrongAt wrongArrival
-routes-any-delay width height bytes team k h plan = refl
+-- what the meeting check goes on with: the numbers of the lent team
+module _ (width height : ℕ) (bytes : List ℕ) (team : Team) (h : ℕ) (v : Verdict) (told : v ≡ judgeWith false (jobOf width height bytes team h)) where
+  abbrev lent : Job
+  lent = jobOf width height bytes team h
+
+  pub accepted-team : v ≡ Accepted → TeamLimits team h
+  accepted-team e =
+      let f = accepted-facts false lent (sym told ∙ e) in
+      record { countMost = f .countMost; slipMost = f .slipMost; horizonMost = f .horizonMost }
+
+  pub meetings-accepted : (plan : List ℕ) → v ≡ Accepted → comparedAt plan team h ≡ meetingVerdict lent plan
+  unfolding meetingVerdict judge comparedAt compared planClash
+  meetings-accepted plan e = sym (if-accepted (judgeWith false lent) (compared lent plan) (RefusedJob (judgeWith false lent)) (sym told ∙ e))

@@ -9,11 +9,11 @@ ghost use Prim.Native.Nat.{_+_, _*_, _≤_, _<_};
 ghost use mathlib.Core.Path.{_≡_};
 ghost use lib.ListN.{length, getD};
 ghost use Rattle.lists.specs.Lists.{firstOf};
-ghost use Rattle.job.specs.Job.{planCell, mostDelay, mostHorizon, mostCarriers};
+ghost use Rattle.job.specs.Job.{planCell, mostHorizon, mostCarriers};
 ghost use Rattle.job.specs.Team.{jobOf};
 ghost use Rattle.routes.specs.Check.{wrongArrival, wrongAt, firstWrongPlace, planVerdict, routeVerdict};
 ghost use Rattle.clashes.specs.Check.{meetingVerdict};
-ghost use Rattle.checks.specs.Walk.{Limits, Ready, placeFound, wrongPlace, placesOf, comparedAt};
+ghost use Rattle.checks.specs.Walk.{Limits, Ready, TeamLimits, placeFound, wrongPlace, placesOf, comparedAt};
 
 // The length that check 7 asks of a plan: m × (H + 1).
 fn needed_length(count: usize, h: usize) -> usize
@@ -43,8 +43,8 @@ fn wrong_arrival(
     i: usize,
     t: usize,
 ) -> bool
-    requires { ⌜ Ready (jobOf width height (now hall) team 0 h) (now plan) × (i < team .count) × (t ≤ h) ⌝ }
-    ensures { λ r. ⌜ r ≡ wrongArrival (jobOf width height (now (hall .entry)) team 0 h) i (planCell (jobOf width height (now (hall .entry)) team 0 h) (now (plan .entry)) i) t ⌝ }
+    requires { ⌜ Ready (jobOf width height (now hall) team h) (now plan) × (i < team .count) × (t ≤ h) ⌝ }
+    ensures { λ r. ⌜ r ≡ wrongArrival (jobOf width height (now (hall .entry)) team h) i (planCell (jobOf width height (now (hall .entry)) team h) (now (plan .entry)) i) t ⌝ }
 {
     let at = i * (h + 1) + t;
     if t == 0 {
@@ -64,8 +64,8 @@ fn wrong_at(
     i: usize,
     t: usize,
 ) -> bool
-    requires { ⌜ Ready (jobOf width height (now hall) team 0 h) (now plan) × (i < team .count) × (t ≤ h) ⌝ }
-    ensures { λ r. ⌜ r ≡ wrongAt (jobOf width height (now (hall .entry)) team 0 h) i (planCell (jobOf width height (now (hall .entry)) team 0 h) (now (plan .entry)) i) t ⌝ }
+    requires { ⌜ Ready (jobOf width height (now hall) team h) (now plan) × (i < team .count) × (t ≤ h) ⌝ }
+    ensures { λ r. ⌜ r ≡ wrongAt (jobOf width height (now (hall .entry)) team h) i (planCell (jobOf width height (now (hall .entry)) team h) (now (plan .entry)) i) t ⌝ }
 {
     if wrong_arrival(hall, width, height, team, h, plan, i, t) {
         return true;
@@ -90,8 +90,8 @@ fn first_wrong_step(
     plan: &[u8],
     i: usize,
 ) -> Found
-    requires { ⌜ Ready (jobOf width height (now hall) team 0 h) (now plan) × (i < team .count) ⌝ }
-    ensures { λ r. ⌜ placeFound r ≡ firstOf (wrongPlace (jobOf width height (now (hall .entry)) team 0 h) (now (plan .entry))) (placesOf h i) ⌝ }
+    requires { ⌜ Ready (jobOf width height (now hall) team h) (now plan) × (i < team .count) ⌝ }
+    ensures { λ r. ⌜ placeFound r ≡ firstOf (wrongPlace (jobOf width height (now (hall .entry)) team h) (now (plan .entry))) (placesOf h i) ⌝ }
 {
     for t in 0..h + 1 {
         if wrong_at(hall, width, height, team, h, plan, i, t) {
@@ -113,8 +113,8 @@ fn first_wrong_place(
     h: usize,
     plan: &[u8],
 ) -> Found
-    requires { ⌜ Ready (jobOf width height (now hall) team 0 h) (now plan) ⌝ }
-    ensures { λ r. ⌜ placeFound r ≡ firstWrongPlace (jobOf width height (now (hall .entry)) team 0 h) (planCell (jobOf width height (now (hall .entry)) team 0 h) (now (plan .entry))) ⌝ }
+    requires { ⌜ Ready (jobOf width height (now hall) team h) (now plan) ⌝ }
+    ensures { λ r. ⌜ placeFound r ≡ firstWrongPlace (jobOf width height (now (hall .entry)) team h) (planCell (jobOf width height (now (hall .entry)) team h) (now (plan .entry))) ⌝ }
 {
     let count = team.count;
     for i in 0..count {
@@ -138,8 +138,8 @@ fn check_lawful(
     h: usize,
     plan: &[u8],
 ) -> RouteVerdict
-    requires { ⌜ Limits (jobOf width height (now hall) team 0 h) ⌝ }
-    ensures { λ r. ⌜ r ≡ planVerdict (jobOf width height (now (hall .entry)) team 0 h) (now (plan .entry)) ⌝ }
+    requires { ⌜ Limits (jobOf width height (now hall) team h) ⌝ }
+    ensures { λ r. ⌜ r ≡ planVerdict (jobOf width height (now (hall .entry)) team h) (now (plan .entry)) ⌝ }
 {
     let needed = needed_length(team.count, h);
     if plan.len() < needed {
@@ -159,13 +159,12 @@ pub fn check_routes(
     width: usize,
     height: usize,
     team: Team,
-    k: usize,
     h: usize,
     plan: &[u8],
 ) -> RouteVerdict
-    ensures { λ r. ⌜ r ≡ routeVerdict (jobOf width height (now (hall .entry)) team k h) (now (plan .entry)) ⌝ }
+    ensures { λ r. ⌜ r ≡ routeVerdict (jobOf width height (now (hall .entry)) team h) (now (plan .entry)) ⌝ }
 {
-    let verdict = job::judge_job(hall, width, height, team, k, h, false);
+    let verdict = job::judge_job(hall, width, height, team, h, false);
     if let Verdict::Accepted = verdict {
         return check_lawful(hall, width, height, team, h, plan);
     }
@@ -173,15 +172,15 @@ pub fn check_routes(
 }
 
 // The meeting check of an accepted job.
-fn check_apart(count: usize, k: usize, h: usize, plan: &[u8]) -> MeetingVerdict
-    requires { ⌜ (count ≤ mostCarriers) × (k ≤ mostDelay) × (h ≤ mostHorizon) ⌝ }
-    ensures { λ r. ⌜ r ≡ comparedAt (now (plan .entry)) count k h ⌝ }
+fn check_apart(team: Team, h: usize, plan: &[u8]) -> MeetingVerdict
+    requires { ⌜ TeamLimits team h ⌝ }
+    ensures { λ r. ⌜ r ≡ comparedAt (now (plan .entry)) team h ⌝ }
 {
-    let needed = needed_length(count, h);
+    let needed = needed_length(team.count, h);
     if plan.len() < needed {
         return MeetingVerdict::Short { needed };
     }
-    MeetingVerdict::Compared(clashes::first_clash(plan, count, k, h))
+    MeetingVerdict::Compared(clashes::first_clash(plan, team, h))
 }
 
 // The meeting check: 'compares any bytes as cells (..) and says 0, or 22 with the meeting or swap chosen by rule 5 and which of
@@ -191,15 +190,14 @@ pub fn check_meetings(
     width: usize,
     height: usize,
     team: Team,
-    k: usize,
     h: usize,
     plan: &[u8],
 ) -> MeetingVerdict
-    ensures { λ r. ⌜ r ≡ meetingVerdict (jobOf width height (now (hall .entry)) team k h) (now (plan .entry)) ⌝ }
+    ensures { λ r. ⌜ r ≡ meetingVerdict (jobOf width height (now (hall .entry)) team h) (now (plan .entry)) ⌝ }
 {
-    let verdict = job::judge_job(hall, width, height, team, k, h, false);
+    let verdict = job::judge_job(hall, width, height, team, h, false);
     if let Verdict::Accepted = verdict {
-        return check_apart(team.count, k, h, plan);
+        return check_apart(team, h, plan);
     }
     MeetingVerdict::Refused(verdict)
 }

@@ -21,7 +21,7 @@ use Rattle.children.specs.declared.Grown.the-variants.{Nothing, Made, Fu
 
 -- the job of a task over a hall's bytes
 abbrev pub jobOn : Task → List ℕ → Job
-jobOn task bytes = jobOf (task .width) (task .height) bytes (task .team) (task .delay) (task .horizon)
+jobOn task bytes = jobOf (task .width) (task .height) bytes (task .team) (task .horizon)
 
 -- what checks 1 to 7 have shown
 pub record Ready (task : Task) (bytes layers : List ℕ) : Type 0 where
@@ -30,12 +30,12 @@ pub record Ready (task : Task) (bytes layers : List ℕ) : Type 0 where
   pub height-least : 1 ≤ task .height
   pub height-most : task .height ≤ 16
   pub bytes-long : length bytes ≡ task .width * task .height
-  pub delay-most : task .delay ≤ 4
   pub horizon-most : task .horizon ≤ 63
   pub count-least : 1 ≤ task .team .count
   pub count-most : task .team .count ≤ 8
   pub capacity-least : 1 ≤ task .capacity
   pub capacity-most : task .capacity ≤ 1024
+  pub slips-most : (i : ℕ) → i < task .team .count → getD (task .team .slips) i 0 ≤ 4
   pub starts-inside : (i : ℕ) → i < task .team .count → getD (task .team .starts) i 0 < task .width * task .height
   pub goals-inside : (i : ℕ) → i < task .team .count → getD (task .team .goals) i 0 < task .width * task .height
   pub layers-long : layersLength (jobOn task bytes) ≤ length layers

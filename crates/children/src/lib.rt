@@ -21,7 +21,6 @@ ghost use Rattle.children.specs.Children.{RouteSought, Readable, RoutePu
 pub struct Task {
     pub width: usize,
     pub height: usize,
-    pub delay: usize,
     pub horizon: usize,
     pub capacity: usize,
     pub team: Team,

@@ -3,22 +3,24 @@
 -- cursor's clash happens, and so is the chosen one, or the cursor is past the horizon, and nothing is chosen.
 -- Assumes nothing.
 use Prim.Native.Nat.{ℕ, _+_, _-_, _≤_, _<_, min}
-use mathlib.Core.Path.{_≡_, refl, sym}
+use mathlib.Core.Path.{_≡_, refl, sym, _∙_}
 use mathlib.Core.Logic.{_⊎_, ⊎-elim}
 use mathlib.Core.Option.{Option, none, some}
 use native.Mathlib.Omega.{arith}
 use native.Mathlib.Decide.{ℕ-discrete}
 use lib.Dec.{T}
 use denote.Enum.Declared.{declared, tagOf}
-use Rattle.lists.specs.Lists.{firstOf}
+use Rattle.lists.specs.Lists.{greatest, firstOf}
 use Rattle.lists.proofs.Passing.{FirstFact}
+use Rattle.clashes.specs.Clash.{Travel}
 use Rattle.clashes.specs.Chosen.{meets, happens, candidates, orClear, chosen}
-use Rattle.clashes.specs.Find.{FirstSwap}
+use Rattle.clashes.specs.Find.{firstOther, FirstSwap}
 use Rattle.clashes.specs.First.{NotLater}
 use Rattle.clashes.specs.declared.Clash.{Clash}
 use Rattle.clashes.specs.declared.Clash.the-variants.{Clear, Meeting, Swap}
 use Rattle.clashes.proofs.Clash.{enum}
 use Rattle.clashes.proofs.Tests.{meets-tells}
+use Rattle.clashes.proofs.Compared.{other-now, other-later}
 use Rattle.clashes.proofs.Candidates.{Listed, first-passed}
 use Rattle.clashes.proofs.First.{first-chosen}
 
@@ -26,10 +28,10 @@ use Rattle.clashes.proofs.First.{first-chosen}
 abbrev tag : Clash → ℕ
 tag c = tagOf (declared enum) c
 
-module _ (at : ℕ → ℕ → ℕ) (slip : ℕ → ℕ) (most h m : ℕ) where
+module _ (v : Travel) (m : ℕ) where
   -- every clash that happens comes at c or later
   unfoldable pub From : Clash → Type 0
-  From c = (c' : Clash) → Listed m most h c' → T (happens at slip h c') → NotLater c c'
+  From c = (c' : Clash) → Listed v m c' → T (happens v c') → NotLater c c'
 
   pub from-start : From (Meeting 0 0 0 0)
   unfolding From NotLater happens
@@ -38,7 +40,23 @@ module _ (at : ℕ → ℕ → ℕ) (slip : ℕ → ℕ) (most h m : ℕ) where
   from-start (Swap i j t) listed test = omega arith
 
   module _ (t d : ℕ) where
-    pub from-next-second : (i j : ℕ) → (T (meets at slip h i j t d) → ⊥) → From (Meeting i j t d) → From (Meeting i (j + 1) t d)
+    -- at equal steps the other has the greater number
+    pub from-others : (i : ℕ) → From (Meeting i 0 t d) → From (Meeting i (firstOther i d) t d)
+    unfolding From NotLater happens
+    from-others i from Clear listed test = absurd test
+    from-others i from (Meeting i' j' t' d') listed test =
+        let f = from (Meeting i' j' t' d') listed test in
+        (f .0, f .1, f .2, λ e₀ e₁ e₂. above e₁ e₂ (meets-tells v i' j' t' d' test .1))
+      where
+        above : d ≡ d' → i ≡ i' → (d' ≡ 0 → i' < j') → firstOther i d ≤ j'
+        above e₁ e₂ less =
+            elim (ℕ-discrete d 0) [
+              | yes z ↦ omega (arith, other-now i d z, less (sym e₁ ∙ z))
+              | no later ↦ omega (arith, other-later i d later)
+            ]
+    from-others i from (Swap i' j' t') listed test = from (Swap i' j' t') listed test
+
+    pub from-next-second : (i j : ℕ) → (T (meets v i j t d) → ⊥) → From (Meeting i j t d) → From (Meeting i (j + 1) t d)
     unfolding From NotLater happens
     from-next-second i j fails from Clear listed test = absurd test
     from-next-second i j fails from (Meeting i' j' t' d') listed test =
@@ -78,23 +96,21 @@ module _ (at : ℕ → ℕ → ℕ) (slip : ℕ → ℕ) (most h m : ℕ) where
     from-next-distance from (Swap i' j' t') listed test = from (Swap i' j' t') listed test
 
   module _ (t : ℕ) where
-    -- no distance is left at t: 'D from 0 to k, both steps at most H'
-    pub from-swaps : (d : ℕ) → (slipped : (i : ℕ) → slip i ≤ most) → d ≡ min most (h - t) + 1 → From (Meeting 0 0 t d) → From (Swap 0 0 t)
-    unfolding From NotLater happens
-    from-swaps d slipped e from Clear listed test = absurd test
-    from-swaps d slipped e from (Meeting i' j' t' d') listed test =
+    -- no distance is left at t: none is beyond the greatest slip, and 'both steps at most H'
+    pub from-swaps : (d : ℕ) → d ≡ min (greatest m (v .slip)) (v .horizon - t) + 1 → From (Meeting 0 0 t d) → From (Swap 0 0 t)
+    unfolding From NotLater happens Listed
+    from-swaps d e from Clear listed test = absurd test
+    from-swaps d e from (Meeting i' j' t' d') listed test =
         let f = from (Meeting i' j' t' d') listed test in
-        let m = meets-tells at slip h i' j' t' d' test .0 in
-        let low : slip i' ≤ most = slipped i' in
-        later (f .0) (f .1) (m .inside) (m .near) low
+        later (f .0) (f .1) (meets-tells v i' j' t' d' test .0 .inside) (listed .3)
       where
-        later : t ≤ t' → (t ≡ t' → d ≤ d') → t' + d' ≤ h → d' ≤ slip i' → slip i' ≤ most → t < t'
-        later le last inside near low =
+        later : t ≤ t' → (t ≡ t' → d ≤ d') → t' + d' ≤ v .horizon → d' ≤ greatest m (v .slip) → t < t'
+        later le last inside near =
             elim (ℕ-discrete t t') [ yes e₀ ↦ let past : d ≤ d' = last e₀ in absurd (omega arith) | no ne ↦ omega arith ]
-    from-swaps d slipped e from (Swap i' j' t') listed test =
+    from-swaps d e from (Swap i' j' t') listed test =
         let le : t ≤ t' = from (Swap i' j' t') listed test in (le, λ e₀. omega arith, λ e₀ e₁. omega arith)
 
-    no-swap-at : FirstSwap at slip h m t Clear → From (Swap 0 0 t) → From (Meeting 0 0 (t + 1) 0)
+    no-swap-at : FirstSwap v m t Clear → From (Swap 0 0 t) → From (Meeting 0 0 (t + 1) 0)
     unfolding From NotLater happens Listed FirstSwap
     no-swap-at fails from Clear listed test = absurd test
     no-swap-at fails from (Meeting i' j' t' d') listed test = let f : t < t' = from (Meeting i' j' t' d') listed test in omega arith
@@ -102,7 +118,7 @@ module _ (at : ℕ → ℕ → ℕ) (slip : ℕ → ℕ) (most h m : ℕ) where
         let f = from (Swap i' j' t') listed test in
         elim (ℕ-discrete t t') [ yes e ↦ absurd (fails i' j' (listed .0) (listed .1) (rw e test)) | no ne ↦ omega arith ]
 
-    pub from-next-step : (c : Clash) → (tag c ≡ 0) ⊎ (tag c ≡ 1) → FirstSwap at slip h m t c → From (Swap 0 0 t) → From (Meeting 0 0 (t + 1) 0)
+    pub from-next-step : (c : Clash) → (tag c ≡ 0) ⊎ (tag c ≡ 1) → FirstSwap v m t c → From (Swap 0 0 t) → From (Meeting 0 0 (t + 1) 0)
     unfolding FirstSwap
     from-next-step Clear e first from = no-swap-at first from
     from-next-step (Meeting i j u d) e first from = absurd first
@@ -110,33 +126,33 @@ module _ (at : ℕ → ℕ → ℕ) (slip : ℕ → ℕ) (most h m : ℕ) where
 
   -- ---- the end of the search
 
-  pub from-meeting : (i j t d : ℕ) → i < m → j < m → t ≤ h → d ≤ most → T (meets at slip h i j t d) → From (Meeting i j t d) → Meeting i j t d ≡ chosen at slip most h m
+  pub from-meeting : (i j t d : ℕ) → i < m → j < m → t ≤ v .horizon → d ≤ greatest m (v .slip) → T (meets v i j t d) → From (Meeting i j t d) → Meeting i j t d ≡ chosen v m
   unfolding From happens Listed
-  from-meeting i j t d im jm step near test from = sym (first-chosen at slip most h m (Meeting i j t d) (im, jm, step, near) test from)
+  from-meeting i j t d im jm step near test from = sym (first-chosen v m (Meeting i j t d) (im, jm, step, near) test from)
 
-  pub from-swap : (t : ℕ) → t ≤ h → (c : Clash) → tag c ≡ 2 → FirstSwap at slip h m t c → From (Swap 0 0 t) → c ≡ chosen at slip most h m
+  pub from-swap : (t : ℕ) → t ≤ v .horizon → (c : Clash) → tag c ≡ 2 → FirstSwap v m t c → From (Swap 0 0 t) → c ≡ chosen v m
   unfolding From happens Listed FirstSwap NotLater
   from-swap t step Clear e first from = absurd (omega arith)
   from-swap t step (Meeting i j u d) e first from = absurd first
   from-swap t step (Swap i j u) e first from =
       let now : u ≡ t = first .0 in
-      rw now (sym (first-chosen at slip most h m (Swap i j t) (first .1, first .2, step) (first .3) sooner))
+      rw now (sym (first-chosen v m (Swap i j t) (first .1, first .2, step) (first .3) sooner))
     where
-      sooner : (c' : Clash) → Listed m most h c' → T (happens at slip h c') → NotLater (Swap i j t) c'
+      sooner : (c' : Clash) → Listed v m c' → T (happens v c') → NotLater (Swap i j t) c'
       sooner Clear listed test = absurd test
       sooner (Meeting i' j' t' d') listed test = from (Meeting i' j' t' d') listed test
       sooner (Swap i' j' t') listed test =
           (from (Swap i' j' t') listed test .0, λ e. first .4 i' j' (listed .0) (listed .1) (rw e test) .0, λ e. first .4 i' j' (listed .0) (listed .1) (rw e test) .1)
 
-  pub from-end : From (Meeting 0 0 (h + 1) 0) → Clear ≡ chosen at slip most h m
+  pub from-end : From (Meeting 0 0 (v .horizon + 1) 0) → Clear ≡ chosen v m
   unfolding chosen From FirstFact orClear Listed NotLater
-  from-end from = go (firstOf (happens at slip h) (candidates m most h)) (first-passed at slip most h m)
+  from-end from = go (firstOf (happens v) (candidates v m)) (first-passed v m)
     where
-      past : (c : Clash) → Listed m most h c → NotLater (Meeting 0 0 (h + 1) 0) c → ⊥
+      past : (c : Clash) → Listed v m c → NotLater (Meeting 0 0 (v .horizon + 1) 0) c → ⊥
       past Clear listed later = listed
       past (Meeting i j t d) listed later = omega arith
       past (Swap i j t) listed later = omega arith
 
-      go : (o : Option Clash) → FirstFact (happens at slip h) (Listed m most h) (candidates m most h) o → Clear ≡ orClear o
+      go : (o : Option Clash) → FirstFact (happens v) (Listed v m) (candidates v m) o → Clear ≡ orClear o
       go none fails = refl
       go (some c) passed = absurd (past c (passed .1) (from c (passed .1) (passed .0)))

@@ -6,10 +6,11 @@ use mathlib.Core.Path.{_≡_, refl, sym}
 use mathlib.Core.Option.{Option, none, some}
 use native.Mathlib.Omega.{arith}
 use lib.Dec.{T}
-use Rattle.lists.specs.Lists.{range, firstOf, Every}
+use Rattle.lists.specs.Lists.{range, greatest, firstOf, Every}
 use Rattle.lists.proofs.Every.{every-below}
 use Rattle.lists.proofs.Orders.{LeastFact, first-least, Ordered, ordered-append, ordered-each, ordered-range, ordered-rows}
 use Rattle.lists.proofs.Passing.{FirstFact}
+use Rattle.clashes.specs.Clash.{Travel}
 use Rattle.clashes.specs.First.{NotLater, ChosenFact, RightChoice}
 use Rattle.clashes.specs.Chosen.{happens, overPairs, atStep, candidates, orClear, chosen}
 use Rattle.clashes.specs.declared.Clash.{Clash}
@@ -30,37 +31,37 @@ module _ (m : ℕ) where
   unfolding overPairs
   pairs-in-order clash inner outer = ordered-rows NotLater clash (λ i. 0) (λ i. m) inner outer m
 
-  module _ (most : ℕ) where
-    meetings-in-order : (t : ℕ) → Ordered NotLater (meetingsAt m most t)
+  module _ (v : Travel) where
+    meetings-in-order : (t : ℕ) → Ordered NotLater (meetingsAt v m t)
     unfolding NotLater
     meetings-in-order t =
-        ordered-each NotLater (λ d. overPairs m (λ i j. Meeting i j t d)) (range 0 (most + 1))
-        (every-below (λ d. Ordered NotLater (overPairs m (λ i j. Meeting i j t d))) (most + 1)
+        ordered-each NotLater (λ d. overPairs m (λ i j. Meeting i j t d)) (range 0 (greatest m (v .slip) + 1))
+        (every-below (λ d. Ordered NotLater (overPairs m (λ i j. Meeting i j t d))) (greatest m (v .slip) + 1)
         (λ d _. pairs-in-order (λ i j. Meeting i j t d) (λ i j j' less. omega arith) (λ i j i' j' less. omega arith)))
-        (ordered-range (λ d d'. Every (λ x. Every (NotLater x) (overPairs m (λ i j. Meeting i j t d'))) (overPairs m (λ i j. Meeting i j t d))) 0 (most + 1)
+        (ordered-range (λ d d'. Every (λ x. Every (NotLater x) (overPairs m (λ i j. Meeting i j t d'))) (overPairs m (λ i j. Meeting i j t d))) 0 (greatest m (v .slip) + 1)
         (λ d d' _ less _.
         every-pair (λ x. Every (NotLater x) (overPairs m (λ i j. Meeting i j t d'))) m (λ i j. Meeting i j t d)
         (λ i j _ _. every-pair (NotLater (Meeting i j t d)) m (λ i j. Meeting i j t d') (λ i' j' _ _. omega arith))))
 
-    step-in-order : (t : ℕ) → Ordered NotLater (atStep m most t)
+    step-in-order : (t : ℕ) → Ordered NotLater (atStep v m t)
     unfolding atStep NotLater
     step-in-order t =
-        ordered-append NotLater (meetingsAt m most t) (overPairs m (λ i j. Swap i j t))
+        ordered-append NotLater (meetingsAt v m t) (overPairs m (λ i j. Swap i j t))
         (meetings-in-order t)
         (pairs-in-order (λ i j. Swap i j t) (λ i j j' less. omega arith) (λ i j i' j' less. omega arith))
-        (every-meeting (λ x. Every (NotLater x) (overPairs m (λ i j. Swap i j t))) m most t
+        (every-meeting (λ x. Every (NotLater x) (overPairs m (λ i j. Swap i j t))) m v t
         (λ i j d _ _ _. every-pair (NotLater (Meeting i j t d)) m (λ i j. Swap i j t) (λ i' j' _ _. omega arith)))
 
-    candidates-in-order : (h : ℕ) → Ordered NotLater (candidates m most h)
+    candidates-in-order : Ordered NotLater (candidates v m)
     unfolding candidates NotLater
-    candidates-in-order h =
-        ordered-each NotLater (atStep m most) (range 0 (h + 1))
-        (every-below (λ t. Ordered NotLater (atStep m most t)) (h + 1) (λ t _. step-in-order t))
-        (ordered-range (λ t t'. Every (λ x. Every (NotLater x) (atStep m most t')) (atStep m most t)) 0 (h + 1)
+    candidates-in-order =
+        ordered-each NotLater (atStep v m) (range 0 (v .horizon + 1))
+        (every-below (λ t. Ordered NotLater (atStep v m t)) (v .horizon + 1) (λ t _. step-in-order t))
+        (ordered-range (λ t t'. Every (λ x. Every (NotLater x) (atStep v m t')) (atStep v m t)) 0 (v .horizon + 1)
         (λ t t' _ less _.
-        every-at-step (λ x. Every (NotLater x) (atStep m most t')) m most t
-        (λ i j d _ _ _. every-at-step (NotLater (Meeting i j t d)) m most t' (λ i' j' d' _ _ _. omega arith) (λ i' j' _ _. omega arith))
-        (λ i j _ _. every-at-step (NotLater (Swap i j t)) m most t' (λ i' j' d' _ _ _. omega arith) (λ i' j' _ _. omega arith))))
+        every-at-step (λ x. Every (NotLater x) (atStep v m t')) m v t
+        (λ i j d _ _ _. every-at-step (NotLater (Meeting i j t d)) m v t' (λ i' j' d' _ _ _. omega arith) (λ i' j' _ _. omega arith))
+        (λ i j _ _. every-at-step (NotLater (Swap i j t)) m v t' (λ i' j' d' _ _ _. omega arith) (λ i' j' _ _. omega arith))))
 
 -- ---- so the chosen one is the first, and nothing else is
 
@@ -90,44 +91,44 @@ not-later-both (Swap i j t) (Swap i' j' t') f g =
     let e₂ : j ≡ j' = omega arith in
     cc
 
-module _ (at : ℕ → ℕ → ℕ) (slip : ℕ → ℕ) (most h m : ℕ) where
-  module _ (c : Clash) (listed : Listed m most h c) (test : T (happens at slip h c)) where
-    first-of : (o : Option Clash) → FirstFact (happens at slip h) (Listed m most h) (candidates m most h) o → LeastFact (happens at slip h) NotLater (candidates m most h) o → NotLater (orClear o) c
+module _ (v : Travel) (m : ℕ) where
+  module _ (c : Clash) (listed : Listed v m c) (test : T (happens v c)) where
+    first-of : (o : Option Clash) → FirstFact (happens v) (Listed v m) (candidates v m) o → LeastFact (happens v) NotLater (candidates v m) o → NotLater (orClear o) c
     unfolding FirstFact LeastFact orClear
-    first-of none fails least = absurd (candidate-every (λ c. T (happens at slip h c) → ⊥) m most h fails c listed test)
-    first-of (some x) first least = candidate-every (λ c. T (happens at slip h c) → NotLater x c) m most h least c listed test
+    first-of none fails least = absurd (candidate-every (λ c. T (happens v c) → ⊥) m v fails c listed test)
+    first-of (some x) first least = candidate-every (λ c. T (happens v c) → NotLater x c) m v least c listed test
 
-    chosen-first : NotLater (chosen at slip most h m) c
+    chosen-first : NotLater (chosen v m) c
     unfolding chosen
     chosen-first =
-        first-of (firstOf (happens at slip h) (candidates m most h)) (first-passed at slip most h m)
-        (first-least (happens at slip h) NotLater not-later-self (candidates m most h) (candidates-in-order m most h))
+        first-of (firstOf (happens v) (candidates v m)) (first-passed v m)
+        (first-least (happens v) NotLater not-later-self (candidates v m) (candidates-in-order m v))
 
-    module _ (first : (c' : Clash) → Listed m most h c' → T (happens at slip h c') → NotLater c c') where
-      only-of : (o : Option Clash) → FirstFact (happens at slip h) (Listed m most h) (candidates m most h) o → NotLater (orClear o) c → orClear o ≡ c
+    module _ (first : (c' : Clash) → Listed v m c' → T (happens v c') → NotLater c c') where
+      only-of : (o : Option Clash) → FirstFact (happens v) (Listed v m) (candidates v m) o → NotLater (orClear o) c → orClear o ≡ c
       unfolding FirstFact orClear
-      only-of none fails least = absurd (candidate-every (λ c. T (happens at slip h c) → ⊥) m most h fails c listed test)
+      only-of none fails least = absurd (candidate-every (λ c. T (happens v c) → ⊥) m v fails c listed test)
       only-of (some x) passed least = not-later-both x c least (first x (passed .1) (passed .0))
 
-      pub first-chosen : chosen at slip most h m ≡ c
+      pub first-chosen : chosen v m ≡ c
       unfolding chosen
-      first-chosen = only-of (firstOf (happens at slip h) (candidates m most h)) (first-passed at slip most h m) chosen-first
+      first-chosen = only-of (firstOf (happens v) (candidates v m)) (first-passed v m) chosen-first
 
-  pub chosen-right : ((i : ℕ) → i < m → slip i ≤ most) → RightChoice at slip h m (chosen at slip most h m)
-  chosen-right within =
+  pub chosen-right : RightChoice v m (chosen v m)
+  chosen-right =
       record {
-        chosen = chosen-fact at slip most h m within;
+        chosen = chosen-fact v m;
         meetings = λ i j t d f.
-            let passes = meeting-passes at slip most h m within i j t d (f .one) (f .other) (f .smaller) (f .is) in
+            let passes = meeting-passes v m i j t d (f .one) (f .other) (f .smaller) (f .is) in
             chosen-first (Meeting i j t d) (passes .0) (passes .1);
         swaps = λ i j t f.
-            let passes = swap-passes at slip most h m i j t (f .one) (f .other) (f .smaller) (f .is) in
+            let passes = swap-passes v m i j t (f .one) (f .other) (f .smaller) (f .is) in
             chosen-first (Swap i j t) (passes .0) (passes .1);
       }
 
 -- and rule 5 leaves no choice
-module _ (at : ℕ → ℕ → ℕ) (slip : ℕ → ℕ) (h m : ℕ) where
-  no-later : (c c' : Clash) → RightChoice at slip h m c → ChosenFact at slip h m c' → NotLater c c'
+module _ (v : Travel) (m : ℕ) where
+  no-later : (c c' : Clash) → RightChoice v m c → ChosenFact v m c' → NotLater c c'
   unfolding ChosenFact NotLater
   no-later Clear Clear r f = tt
   no-later (Meeting i j t d) Clear r f = tt
@@ -135,5 +136,5 @@ module _ (at : ℕ → ℕ → ℕ) (slip : ℕ → ℕ) (h m : ℕ) where
   no-later c (Meeting i j t d) r f = r .meetings i j t d f
   no-later c (Swap i j t) r f = r .swaps i j t f
 
-  pub right-choice-unique : (c c' : Clash) → RightChoice at slip h m c → RightChoice at slip h m c' → c ≡ c'
+  pub right-choice-unique : (c c' : Clash) → RightChoice v m c → RightChoice v m c' → c ≡ c'
   right-choice-unique c c' r r' = not-later-both c c' (no-later c c' r (r' .chosen)) (no-later c' c r' (r .chosen))

@@ -3,14 +3,14 @@
 -- at steps that differ by no more than a slip; and a meeting is brought about by holding its first carrier at the start.
 -- Assumes nothing.
 use Prim.Native.Nat.{ℕ, zero, suc, _+_, _-_, _≤_, _<_, min}
-use mathlib.Core.Path.{_≡_, refl, sym}
+use mathlib.Core.Path.{_≡_, refl, sym, ap, _∙_}
 use mathlib.Core.Bool.{Bool, true, false}
 use native.Mathlib.Omega.{arith}
 use native.Mathlib.Decide.{decLe}
 use native.Mathlib.Numerals.{add-one}
 use lib.Dec.{ltb, eqb}
 use borrow.Author.Tests.{ltb-true, ltb-false, eqb-true, eq-eqb, ne-eqb}
-use Rattle.clashes.specs.Clash.{Apart}
+use Rattle.clashes.specs.Clash.{Travel, Apart}
 use Rattle.clashes.specs.Holds.{Pattern, heldBy, doneBy, Sparing, placeAt, Clean, Survives}
 
 -- ---- a carrier's steps done and its holds make up the moment
@@ -63,9 +63,12 @@ module _ {s n a x a' x' r b y b' y' : ℕ} (h : ℕ) (one : Goes s n a x a' x') 
       let v : b < h = omega arith in
       (omega arith, omega arith, omega arith, omega arith, omega arith, omega arith, omega arith)
 
-module _ (at : ℕ → ℕ → ℕ) (slip : ℕ → ℕ) (h m : ℕ) (apart : Apart at slip h m) where
+moved : (v : Travel) {i j a b a' b' : ℕ} → a ≡ a' → b ≡ b' → v .at i a ≡ v .at j b → v .at i a' ≡ v .at j b'
+moved v {i} {j} e f same = sym (ap (v .at i) e) ∙ same ∙ ap (v .at j) f
+
+module _ (v : Travel) (m : ℕ) (apart : Apart v m) where
   -- meetings without an order: i at step a and j at step b, neither ahead of the other by more than the other's slip
-  pub apart-near : (i j a b : ℕ) → i < m → j < m → (i ≡ j → ⊥) → a ≤ h → b ≤ h → b ≤ a + slip i → a ≤ b + slip j → at i a ≡ at j b → ⊥
+  pub apart-near : (i j a b : ℕ) → i < m → j < m → (i ≡ j → ⊥) → a ≤ v .horizon → b ≤ v .horizon → b ≤ a + v .slip i → a ≤ b + v .slip j → v .at i a ≡ v .at j b → ⊥
   apart-near i j a b im jm ne ah bh ab ba same =
       elim (decLe a b) [
         | yes le ↦
@@ -78,22 +81,22 @@ module _ (at : ℕ → ℕ → ℕ) (slip : ℕ → ℕ) (h m : ℕ) (apart : Ap
 
   -- Two on one cell at one moment are a meeting. Two that exchange cells are one too, unless each goes ahead of the other by
   -- more than the other's slip; then nobody slips and it is a swap.
-  pub apart-survives : Survives at slip h m
+  pub apart-survives : Survives v m
   unfolding Survives Sparing placeAt
   apart-survives p sparing i j im jm ne n =
-      let one : Goes (slip i) n (doneBy (p i) n) (heldBy (p i) n) (doneBy (p i) (n + 1)) (heldBy (p i) (n + 1)) = goes (p i) (slip i) n (sparing i im (n + 1)) in
-      let two : Goes (slip j) n (doneBy (p j) n) (heldBy (p j) n) (doneBy (p j) (n + 1)) (heldBy (p j) (n + 1)) = goes (p j) (slip j) n (sparing j jm (n + 1)) in
+      let one : Goes (v .slip i) n (doneBy (p i) n) (heldBy (p i) n) (doneBy (p i) (n + 1)) (heldBy (p i) (n + 1)) = goes (p i) (v .slip i) n (sparing i im (n + 1)) in
+      let two : Goes (v .slip j) n (doneBy (p j) n) (heldBy (p j) n) (doneBy (p j) (n + 1)) (heldBy (p j) (n + 1)) = goes (p j) (v .slip j) n (sparing j jm (n + 1)) in
       record {
-        not-together = λ same. apart-near i j (min (doneBy (p i) n) h) (min (doneBy (p j) n) h) im jm ne (omega arith) (omega arith) (not-ahead h one two) (not-ahead h two one) same;
+        not-together = λ same. apart-near i j (min (doneBy (p i) n) (v .horizon)) (min (doneBy (p j) n) (v .horizon)) im jm ne (omega arith) (omega arith) (not-ahead (v .horizon) one two) (not-ahead (v .horizon) two one) same;
         not-through = λ there back.
-            elim (decLe (min (doneBy (p j) (n + 1)) h) (min (doneBy (p i) n) h + slip i)) [
-              | yes near ↦ apart-near i j (min (doneBy (p i) n) h) (min (doneBy (p j) (n + 1)) h) im jm ne (omega arith) (omega arith) near (not-ahead-next h one two) there
+            elim (decLe (min (doneBy (p j) (n + 1)) (v .horizon)) (min (doneBy (p i) n) (v .horizon) + v .slip i)) [
+              | yes near ↦ apart-near i j (min (doneBy (p i) n) (v .horizon)) (min (doneBy (p j) (n + 1)) (v .horizon)) im jm ne (omega arith) (omega arith) near (not-ahead-next (v .horizon) one two) there
               | no far ↦
-                  elim (decLe (min (doneBy (p i) (n + 1)) h) (min (doneBy (p j) n) h + slip j)) [
-                    | yes near ↦ apart-near j i (min (doneBy (p j) n) h) (min (doneBy (p i) (n + 1)) h) jm im (λ q. ne (sym q)) (omega arith) (omega arith) near (not-ahead-next h two one) back
+                  elim (decLe (min (doneBy (p i) (n + 1)) (v .horizon)) (min (doneBy (p j) n) (v .horizon) + v .slip j)) [
+                    | yes near ↦ apart-near j i (min (doneBy (p j) n) (v .horizon)) (min (doneBy (p i) (n + 1)) (v .horizon)) jm im (λ q. ne (sym q)) (omega arith) (omega arith) near (not-ahead-next (v .horizon) two one) back
                     | no wide ↦
-                        (let u = unslipped h one two far wide in
-                        apart .swaps i j n im jm (record { two = ne; none-slips = (u .0, u .1); inside = u .2; there = rw (u .3, u .6) at there; back = rw (u .4, u .5) at back }))
+                        (let u = unslipped (v .horizon) one two far wide in
+                        apart .swaps i j n im jm (record { two = ne; none-slips = (u .0, u .1); inside = u .2; there = moved v (u .3) (u .6) there; back = moved v (u .4) (u .5) back }))
                   ]
             ];
       }
@@ -138,22 +141,22 @@ just-within slip i d near k =
     (elim (eqb k i) as (λ b. eqb k i ≡ b → just i d k ≤ slip k)
     [ true ↦ λ e. rw (e, just) (rw (eqb-true k i e) near) | false ↦ λ e. rw (e, just) (omega arith) ]) refl
 
-module _ (at : ℕ → ℕ → ℕ) (slip : ℕ → ℕ) (h m : ℕ) (survives : Survives at slip h m) where
-  delayed-clean : (c : ℕ → ℕ) → ((k : ℕ) → c k ≤ slip k) → (i j : ℕ) → i < m → j < m → (i ≡ j → ⊥) → (n : ℕ) → Clean at h (delayed c) i j n
+module _ (v : Travel) (m : ℕ) (survives : Survives v m) where
+  delayed-clean : (c : ℕ → ℕ) → ((k : ℕ) → c k ≤ v .slip k) → (i j : ℕ) → i < m → j < m → (i ≡ j → ⊥) → (n : ℕ) → Clean v (delayed c) i j n
   unfolding Survives Sparing
-  delayed-clean c few = survives (delayed c) (λ k km n. rw delayed-held (let f : c k ≤ slip k = few k in omega arith))
+  delayed-clean c few = survives (delayed c) (λ k km n. rw delayed-held (let f : c k ≤ v .slip k = few k in omega arith))
 
-  pub survives-apart : Apart at slip h m
+  pub survives-apart : Apart v m
   unfolding placeAt
   survives-apart =
       record {
         meetings = λ i j t d im jm meets.
-            let first : min (doneBy (delayed (just i d) i) (t + d)) h ≡ t = rw (delayed-done, just-own) (let f : t + d ≤ h = meets .inside in omega arith) in
-            let other : min (doneBy (delayed (just i d) j) (t + d)) h ≡ t + d =
-            rw (delayed-done, just-other i d j (λ q. meets .two (sym q))) (let f : t + d ≤ h = meets .inside in omega arith) in
-            delayed-clean (just i d) (just-within slip i d (meets .near)) i j im jm (meets .two) (t + d) .not-together (rw (first, other) (meets .same));
+            let first : min (doneBy (delayed (just i d) i) (t + d)) (v .horizon) ≡ t = rw (delayed-done, just-own) (let f : t + d ≤ v .horizon = meets .inside in omega arith) in
+            let other : min (doneBy (delayed (just i d) j) (t + d)) (v .horizon) ≡ t + d =
+            rw (delayed-done, just-other i d j (λ q. meets .two (sym q))) (let f : t + d ≤ v .horizon = meets .inside in omega arith) in
+            delayed-clean (just i d) (just-within (v .slip) i d (meets .near)) i j im jm (meets .two) (t + d) .not-together (moved v (sym first) (sym other) (meets .same));
         swaps = λ i j t im jm swaps.
-            let moves : (k : ℕ) → min (doneBy (delayed (λ _. 0) k) t) h ≡ t = λ k. rw delayed-done (let f : t + 1 ≤ h = swaps .inside in omega arith) in
-            let goes-on : (k : ℕ) → min (doneBy (delayed (λ _. 0) k) (t + 1)) h ≡ t + 1 = λ k. rw delayed-done (let f : t + 1 ≤ h = swaps .inside in omega arith) in
-            delayed-clean (λ _. 0) (λ k. omega arith) i j im jm (swaps .two) t .not-through (rw (moves i, goes-on j) (swaps .there)) (rw (moves j, goes-on i) (swaps .back));
+            let moves : (k : ℕ) → min (doneBy (delayed (λ _. 0) k) t) (v .horizon) ≡ t = λ k. rw delayed-done (let f : t + 1 ≤ v .horizon = swaps .inside in omega arith) in
+            let goes-on : (k : ℕ) → min (doneBy (delayed (λ _. 0) k) (t + 1)) (v .horizon) ≡ t + 1 = λ k. rw delayed-done (let f : t + 1 ≤ v .horizon = swaps .inside in omega arith) in
+            delayed-clean (λ _. 0) (λ k. omega arith) i j im jm (swaps .two) t .not-through (moved v (sym (moves i)) (sym (goes-on j)) (swaps .there)) (moved v (sym (moves j)) (sym (goes-on i)) (swaps .back));
       }

@@ -9,4 +9,5 @@ pub mod Compared
 pub mod Cursor
 pub mod Swaps
 pub mod Same
+pub mod Written
 pub mod Wrong

@@ -6,32 +6,34 @@ use mathlib.Core.Path.{_≡_, sym, ap, subst, _∙_}
 use mathlib.Core.Logic.{_⊎_, inl, ⊎-elim}
 use native.Mathlib.Omega.{arith}
 use native.Mathlib.Decide.{ℕ-discrete}
+use Rattle.clashes.specs.Clash.{Travel}
 use Rattle.clashes.specs.Holds.{Pattern, heldBy, doneBy, placeAt, Survives, SurvivesNear}
 use Rattle.clashes.proofs.Holds.{done-held, done-rises}
 
-module _ (near : ℕ → ℕ → Type 0) (at : ℕ → ℕ → ℕ) (slip : ℕ → ℕ) (h m : ℕ) where
-  pub survives-near : Survives at slip h m → SurvivesNear near at slip h m
+module _ (near : ℕ → ℕ → Type 0) (v : Travel) (m : ℕ) where
+  pub survives-near : Survives v m → SurvivesNear near v m
   unfolding Survives SurvivesNear
   survives-near survives p sparing i j im jm ne n =
       let clean = survives p sparing i j im jm ne n in
       record { not-together = clean .not-together; not-through = λ _ there back. clean .not-through there back }
 
-  module _ (steps : (i t : ℕ) → i < m → t < h → (at i (t + 1) ≡ at i t) ⊎ near (at i (t + 1)) (at i t)) where
+  module _ (steps : (i t : ℕ) → i < m → t < v .horizon → (v .at i (t + 1) ≡ v .at i t) ⊎ near (v .at i (t + 1)) (v .at i t)) where
     -- from a real moment to the next
-    goes-near : (p : Pattern) (i n : ℕ) → i < m → (placeAt at h p i (n + 1) ≡ placeAt at h p i n) ⊎ near (placeAt at h p i (n + 1)) (placeAt at h p i n)
+    goes-near : (p : Pattern) (i n : ℕ) → i < m → (placeAt v p i (n + 1) ≡ placeAt v p i n) ⊎ near (placeAt v p i (n + 1)) (placeAt v p i n)
     unfolding placeAt
     goes-near p i n im =
         let rises : (doneBy (p i) n ≤ doneBy (p i) (n + 1)) × (heldBy (p i) n ≤ heldBy (p i) (n + 1)) = done-rises (p i) n in
         let now : doneBy (p i) n + heldBy (p i) n ≡ n = done-held (p i) n in
         let next : doneBy (p i) (n + 1) + heldBy (p i) (n + 1) ≡ n + 1 = done-held (p i) (n + 1) in
-        elim (ℕ-discrete (min (doneBy (p i) (n + 1)) h) (min (doneBy (p i) n) h)) [
-          | yes e ↦ inl (ap (at i) e)
+        elim (ℕ-discrete (min (doneBy (p i) (n + 1)) (v .horizon)) (min (doneBy (p i) n) (v .horizon))) [
+          | yes e ↦ inl (ap (v .at i) e)
           | no ne ↦
-              (let one : min (doneBy (p i) (n + 1)) h ≡ min (doneBy (p i) n) h + 1 = omega arith in
-              rw one (steps i (min (doneBy (p i) n) h) im (omega arith)))
+              (let at : ℕ = min (doneBy (p i) n) (v .horizon) in
+              let one : min (doneBy (p i) (n + 1)) (v .horizon) ≡ at + 1 = omega arith in
+              subst (λ s. (v .at i s ≡ v .at i at) ⊎ near (v .at i s) (v .at i at)) (sym one) (steps i at im (omega arith)))
         ]
 
-    pub near-survives : SurvivesNear near at slip h m → Survives at slip h m
+    pub near-survives : SurvivesNear near v m → Survives v m
     unfolding Survives SurvivesNear
     near-survives survives p sparing i j im jm ne n =
         let clean = survives p sparing i j im jm ne n in
@@ -39,7 +41,7 @@ module _ (near : ℕ → ℕ → Type 0) (at : ℕ → ℕ → ℕ) (slip : ℕ 
           not-together = clean .not-together;
           not-through = λ there back.
               ⊎-elim
-              (λ (same : placeAt at h p j (n + 1) ≡ placeAt at h p j n). clean .not-together (there ∙ same))
-              (λ (close : near (placeAt at h p j (n + 1)) (placeAt at h p j n)). clean .not-through (subst (λ v. near v (placeAt at h p j n)) (sym there) close) there back)
+              (λ (same : placeAt v p j (n + 1) ≡ placeAt v p j n). clean .not-together (there ∙ same))
+              (λ (close : near (placeAt v p j (n + 1)) (placeAt v p j n)). clean .not-through (subst (λ c. near c (placeAt v p j n)) (sym there) close) there back)
               (goes-near p j n jm);
         }

@@ -2,9 +2,16 @@
 -- Assumes nothing.
 use Prim.Native.Nat.{ℕ, _≤_, _<_}
 use native.Mathlib.Nat.{le-trans}
-use Rattle.clashes.specs.Holds.{Sparing, Survives}
+use Rattle.clashes.specs.Clash.{Travel}
+use Rattle.clashes.specs.Holds.{Sparing, placeAt, Survives}
 
-module _ (at : ℕ → ℕ → ℕ) (slip slip' : ℕ → ℕ) (h m : ℕ) (less : (i : ℕ) → i < m → slip' i ≤ slip i) where
-  pub survives-monotone : Survives at slip h m → Survives at slip' h m
-  unfolding Survives Sparing
-  survives-monotone survives p sparing = survives p (λ i im n. le-trans (sparing i im n) (less i im))
+-- the same routes with other slips
+abbrev pub slipping : Travel → (ℕ → ℕ) → Travel
+slipping v slip = record { at = v .at; slip = slip; horizon = v .horizon }
+
+module _ (v : Travel) (slip' : ℕ → ℕ) (m : ℕ) (less : (i : ℕ) → i < m → slip' i ≤ v .slip i) where
+  pub survives-monotone : Survives v m → Survives (slipping v slip') m
+  unfolding Survives Sparing placeAt
+  survives-monotone survives p sparing i j im jm ne n =
+      let clean = survives p (λ i im n. le-trans (sparing i im n) (less i im)) i j im jm ne n in
+      record { not-together = clean .not-together; not-through = clean .not-through }

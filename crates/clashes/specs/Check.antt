@@ -7,18 +7,23 @@ use mathlib.Core.List.{List}
 use Prim.Native.Nat.{ℕ}
 use lib.Dec.{ltb}
 use lib.ListN.{length}
-use Rattle.job.specs.Job.{Job, slipOf, mostSlip, planLength, planCell}
+use Rattle.job.specs.Job.{Job, planLength, planCell}
 use Rattle.job.specs.Told.{bare, fault, refusal, planTooShort}
 use Rattle.job.specs.declared.Fault.{Fault}
 use Rattle.job.specs.Verdict.{judge, verdictTold, ifAccepted}
+use Rattle.clashes.specs.Clash.{Travel}
 use Rattle.clashes.specs.Chosen.{chosen}
 use Rattle.clashes.specs.declared.Clash.{Clash}
 use Rattle.clashes.specs.declared.Clash.the-variants.{Clear, Meeting, Swap}
 use Rattle.clashes.specs.declared.MeetingVerdict.{MeetingVerdict}
 use Rattle.clashes.specs.declared.MeetingVerdict.the-variants.{Refused, Short, Compared}
 
+-- how the carriers of a plan travel
+abbrev pub planTravel : Job → List ℕ → Travel
+planTravel job plan = record { at = planCell job plan; slip = job .slipOf; horizon = job .horizon }
+
 unfoldable pub planClash : Job → List ℕ → Clash
-planClash job plan = chosen (planCell job plan) (slipOf job) (mostSlip job) (job .horizon) (job .count)
+planClash job plan = chosen (planTravel job plan) (job .count)
 
 unfoldable pub compared : Job → List ℕ → MeetingVerdict
 compared job plan = elim (ltb (length plan) (planLength job)) [ true ↦ Short (planLength job) | false ↦ Compared (planClash job plan) ]

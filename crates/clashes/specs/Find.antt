@@ -3,9 +3,12 @@
 use Prim.Native.Nat.{ℕ, _+_, _*_, _≤_, _<_}
 use mathlib.Core.List.{List}
 use mathlib.Core.Path.{_≡_}
-use lib.Dec.{T}
+use mathlib.Core.Bool.{true, false}
+use lib.Dec.{T, eqb}
 use lib.ListN.{length, getD}
-use Rattle.job.specs.Job.{mostCarriers, mostDelay, mostHorizon}
+use Rattle.job.specs.Job.{mostCarriers, mostSlip, mostHorizon}
+use Rattle.job.specs.declared.Team.{Team}
+use Rattle.clashes.specs.Clash.{Travel}
 use Rattle.clashes.specs.Chosen.{swaps, chosen}
 use Rattle.clashes.specs.declared.Clash.{Clash}
 use Rattle.clashes.specs.declared.Clash.the-variants.{Clear, Meeting, Swap}
@@ -14,14 +17,22 @@ use Rattle.clashes.specs.declared.Clash.the-variants.{Clear, Meeting, Sw
 abbrev pub cellIn : List ℕ → ℕ → ℕ → ℕ → ℕ
 cellIn plan h i t = getD plan (i * (h + 1) + t) 0
 
--- the clash that rule 5 chooses in a plan of so many carriers, each of which may slip k steps
-abbrev pub firstClash : List ℕ → ℕ → ℕ → ℕ → Clash
-firstClash plan count k h = chosen (cellIn plan h) (λ i. k) k h count
+-- how the carriers of a plan travel: `planTravel` of the numbers that the code has
+abbrev pub inPlan : List ℕ → List ℕ → ℕ → Travel
+inPlan plan slips h = record { at = cellIn plan h; slip = λ i. getD slips i 0; horizon = h }
+
+-- the clash that rule 5 chooses in a plan of a team
+abbrev pub firstClash : List ℕ → Team → ℕ → Clash
+firstClash plan team h = chosen (inPlan plan (team .slips) h) (team .count)
+
+-- the least number that the other of a meeting of i can have: 'at equal steps the smaller number counts as earlier'
+unfoldable pub firstOther : ℕ → ℕ → ℕ
+firstOther i d = elim (eqb d 0) [ true ↦ i + 1 | false ↦ 0 ]
 
 -- the numbers of an accepted job, and a plan that is long enough
-pub record Whole (plan : List ℕ) (count k h : ℕ) : Type 0 where
+pub record Whole (plan slips : List ℕ) (count h : ℕ) : Type 0 where
   pub few : count ≤ mostCarriers
-  pub slow : k ≤ mostDelay
+  pub slow : (i : ℕ) → i < count → getD slips i 0 ≤ mostSlip
   pub short : h ≤ mostHorizon
   pub whole : count * (h + 1) ≤ length plan
 
@@ -32,8 +43,8 @@ pub record Within (plan : List ℕ) (h i t : ℕ) : Type 0 where
   pub byte : i * (h + 1) + t < length plan
 
 -- 'among swaps least i, then least j, with i < j': the first of the swaps at t, or none of them happens
-unfoldable pub FirstSwap : (ℕ → ℕ → ℕ) → (ℕ → ℕ) → ℕ → ℕ → ℕ → Clash → Type 0
-FirstSwap at slip h m t Clear = (i j : ℕ) → i < m → j < m → T (swaps at slip h i j t) → ⊥
-FirstSwap at slip h m t (Meeting i j u d) = ⊥
-FirstSwap at slip h m t (Swap i j u) =
-    (u ≡ t) × (i < m) × (j < m) × T (swaps at slip h i j t) × ((i' j' : ℕ) → i' < m → j' < m → T (swaps at slip h i' j' t) → (i ≤ i') × (i ≡ i' → j ≤ j'))
+unfoldable pub FirstSwap : Travel → ℕ → ℕ → Clash → Type 0
+FirstSwap v m t Clear = (i j : ℕ) → i < m → j < m → T (swaps v i j t) → ⊥
+FirstSwap v m t (Meeting i j u d) = ⊥
+FirstSwap v m t (Swap i j u) =
+    (u ≡ t) × (i < m) × (j < m) × T (swaps v i j t) × ((i' j' : ℕ) → i' < m → j' < m → T (swaps v i' j' t) → (i ≤ i') × (i ≡ i' → j ≤ j'))

@@ -2,12 +2,12 @@
 -- it. That `chosen` chooses so is the law `chosen-right`.
 use Prim.Native.Nat.{ℕ, _≤_, _<_}
 use mathlib.Core.Path.{_≡_}
-use Rattle.clashes.specs.Clash.{Meets, Swaps, Apart}
+use Rattle.clashes.specs.Clash.{Travel, Meets, Swaps, Apart}
 use Rattle.clashes.specs.declared.Clash.{Clash}
 use Rattle.clashes.specs.declared.Clash.the-variants.{Clear, Meeting, Swap}
 
--- 'least t, then least D, then least i, then least j. A swap at t comes after all meetings at t and before those at t + 1;
--- among swaps least i, then least j'. No clash at all comes after every clash.
+-- 'least e, then least distance of the two steps, then the earlier carrier's number, then the other's'. 'A swap at t comes after all
+-- meetings at t and before those at t + 1; among swaps least i, then least j'. No clash at all comes after every clash.
 unfoldable pub NotLater : Clash → Clash → Type 0
 NotLater (Meeting i j t d) (Meeting i' j' t' d') =
     (t ≤ t') × (t ≡ t' → d ≤ d') × (t ≡ t' → d ≡ d' → i ≤ i') × (t ≡ t' → d ≡ d' → i ≡ i' → j ≤ j')
@@ -20,24 +20,24 @@ NotLater Clear (Meeting i' j' t' d') = ⊥
 NotLater Clear (Swap i' j' t') = ⊥
 NotLater Clear Clear = Unit {0}
 
-module _ (at : ℕ → ℕ → ℕ) (slip : ℕ → ℕ) (h m : ℕ) where
-  -- a meeting among m carriers; 'For D = 0 write the smaller number first.'
+module _ (v : Travel) (m : ℕ) where
+  -- a meeting among m carriers, the earlier first; 'at equal steps the smaller number counts as earlier'
   pub record MeetingOf (i j t d : ℕ) : Type 0 where
     pub one : i < m
     pub other : j < m
     pub smaller : d ≡ 0 → i < j
-    pub is : Meets at slip h i j t d
+    pub is : Meets v i j t d
 
   -- a swap among m carriers, 'with i < j'
   pub record SwapOf (i j t : ℕ) : Type 0 where
     pub one : i < m
     pub other : j < m
     pub smaller : i < j
-    pub is : Swaps at slip h i j t
+    pub is : Swaps v i j t
 
   -- a meeting or a swap, or none where there is none
   unfoldable pub ChosenFact : Clash → Type 0
-  ChosenFact Clear = Apart at slip h m
+  ChosenFact Clear = Apart v m
   ChosenFact (Meeting i j t d) = MeetingOf i j t d
   ChosenFact (Swap i j t) = SwapOf i j t
 

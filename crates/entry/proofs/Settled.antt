@@ -17,9 +17,9 @@ use Rattle.planner.proofs.Settled.{plan-settled}
 use Rattle.carriers.specs.Lent.{recordsTeam}
 use Rattle.carriers.specs.declared.Carrier.{Carrier}
 
-module _ (width height : ℕ) (hall : List ℕ) (carriers : List Carrier) (k h : ℕ) where
+module _ (width height : ℕ) (hall : List ℕ) (carriers : List Carrier) (h : ℕ) where
   abbrev job : Job
-  job = jobOf width height hall (recordsTeam carriers) k h
+  job = jobOf width height hall (recordsTeam carriers) h
 
   pub entry-plan-settled : (n : ℕ) (before : Tables) (r r′ : Answer) (after after′ : Tables) → Planned job n before r after → Planned job n before r′ after′ → (r ≡ r′) × (after ≡ after′)
   entry-plan-settled = plan-settled job

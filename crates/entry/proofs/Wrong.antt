@@ -6,12 +6,12 @@ use native.Mathlib.Omega.{arith}
 use mathlib.Core.Path.{_≡_, sym, subst, ap, _∙_}
 use mathlib.Core.List.{List, [], _∷_, head-eq-of-cons-eq, tail-eq-of-cons-eq}
 use lib.ListN.{getD, replicate}
-use Rattle.lists.specs.Lists.{range, only, keep, anyOf, firstOf, each, refuseIf}
+use Rattle.lists.specs.Lists.{range, greatest, only, keep, anyOf, firstOf, each, refuseIf}
 use Rattle.hall.specs.Hall.{wrongSide, wrongGrid, wrongByte, wrongBytes, isOpen}
 use Rattle.hall.specs.Moves.{onGrid, cellAt, landing, reachFrom, reach, mayFollow}
-use Rattle.job.specs.Job.{Job, wrongLimits, wrongCount, wrongEnds, firstWrong, share, pairs, firstShared}
+use Rattle.job.specs.Job.{Job, wrongLimits, wrongCount, wrongCarrier, firstWrong, share, pairs, firstShared}
 use Rattle.job.specs.Team.{jobOf}
-use Rattle.job.specs.Verdict.{endsVerdict, sharedVerdict, judgeWith, judge, ifAccepted}
+use Rattle.job.specs.Verdict.{carrierVerdict, sharedVerdict, judgeWith, judge, ifAccepted}
 use Rattle.job.specs.Told.{counted}
 use Rattle.job.specs.declared.Told.{Told}
 use Rattle.tables.specs.Tables.{Tables}
@@ -30,17 +30,17 @@ use Rattle.carriers.specs.Lent.{recordsTeam}
 use Rattle.carriers.specs.declared.Carrier.{Carrier}
 use Rattle.carriers.proofs.Padded.{job-padded}
 
--- ---- plan: 3 by 3, 3→5 and 1→7, k 0, H 4, with N 3 a plan of sum 5, with N 2 answer 9
+-- ---- plan: 3 by 3, 3→5 and 1→7 with slips 0, H 4, with N 3 a plan of sum 5, with N 2 answer 9
 
 abbrev crossroads : List Carrier
-crossroads = record { start = 3; goal = 5 } ∷ record { start = 1; goal = 7 } ∷ []
+crossroads = record { start = 3; goal = 5; slip = 0 } ∷ record { start = 1; goal = 7; slip = 0 } ∷ []
 
 abbrev lentJob : Job
-lentJob = jobOf 3 3 (replicate 9 46) (recordsTeam crossroads) 0 4
+lentJob = jobOf 3 3 (replicate 9 46) (recordsTeam crossroads) 4
 
 abbrev starWith : ℕ → Told → List (List ℕ) → Star
 starWith n told routes =
-    record { width = 3; height = 3; starts = 3 ∷ 1 ∷ []; goals = 5 ∷ 7 ∷ []; delay = 0; horizon = 4; capacity = n; told = told; routes = routes }
+    record { width = 3; height = 3; starts = 3 ∷ 1 ∷ []; goals = 5 ∷ 7 ∷ []; slips = 0 ∷ 0 ∷ []; horizon = 4; capacity = n; told = told; routes = routes }
 
 abbrev three : Star
 three = starWith 3 (counted 0 5 3) ((3 ∷ 3 ∷ 4 ∷ 5 ∷ 5 ∷ []) ∷ (1 ∷ 4 ∷ 7 ∷ 7 ∷ 7 ∷ []) ∷ [])
@@ -67,7 +67,7 @@ lent-asked s same known r after p =
     is ∙ known
 
 lent-star : lentJob ≡ starJob three
-lent-star = job-padded 3 3 (replicate 9 46) (3 ∷ 1 ∷ []) (5 ∷ 7 ∷ []) 6 2 0 4
+lent-star = job-padded 3 3 (replicate 9 46) (3 ∷ 1 ∷ []) (5 ∷ 7 ∷ []) (0 ∷ 0 ∷ []) 6 2 4
 
 -- always 8, always 9, or any one number
 pub lent-always-one-number : (n : ℕ) (r r′ : Answer) (after after′ : Tables)
@@ -84,13 +84,16 @@ lent-nothing-written r after p never =
     let z : _≡_ {A = ℕ} 0 3 = ap (λ (l : List ℕ). getD l 0 9) (sym never ∙ ap (λ (x : Seen). x .output) (lent-asked three lent-star three-given r after p)) in
     omega arith
 
--- ---- check_routes and check_meetings: width 3, height 1, 0→1 and 1→2, k 1, H 1; and one cell, 0→0, k 0, H 0
+-- ---- check_routes and check_meetings: width 3, height 1, 0→1 and 1→2, both with slip 1, H 1; and one cell, 0→0 with slip 0, H 0
+
+abbrev lentCrossingOf : ℕ → ℕ → Job
+lentCrossingOf one other = jobOf 3 1 (46 ∷ 46 ∷ 46 ∷ []) (recordsTeam (record { start = 0; goal = 1; slip = one } ∷ record { start = 1; goal = 2; slip = other } ∷ [])) 1
 
 abbrev pub lentCrossing : Job
-lentCrossing = jobOf 3 1 (46 ∷ 46 ∷ 46 ∷ []) (recordsTeam (record { start = 0; goal = 1 } ∷ record { start = 1; goal = 2 } ∷ [])) 1 1
+lentCrossing = lentCrossingOf 1 1
 
 abbrev lentCell : Job
-lentCell = jobOf 1 1 (46 ∷ []) (recordsTeam (record { start = 0; goal = 0 } ∷ [])) 0 0
+lentCell = jobOf 1 1 (46 ∷ []) (recordsTeam (record { start = 0; goal = 0; slip = 0 } ∷ [])) 0
 
 pub lent-always-passes-routes : (r : RouteVerdict) → r ≡ routeVerdict lentCrossing astray → routeTold r .number ≡ 0 → ⊥
 lent-always-passes-routes = always-passes-routes
@@ -104,25 +107,33 @@ lent-always-passes-meetings = always-passes-meetings
 pub lent-never-passes-meetings : (m : MeetingVerdict) → m ≡ meetingVerdict lentCell standing → (meetingTold m .number ≡ 0 → ⊥) → ⊥
 lent-never-passes-meetings = never-passes-meetings
 
--- width 2, height 3, 0→2, k 0, H 1: two cells in one column, and in no column or row of a hall of width 3
+-- width 2, height 3, 0→2 with slip 0, H 1: two cells in one column, and in no column or row of a hall of width 3
 abbrev lentColumn : ℕ → ℕ → Job
-lentColumn width height = jobOf width height (replicate 6 46) (recordsTeam (record { start = 0; goal = 2 } ∷ [])) 0 1
+lentColumn width height = jobOf width height (replicate 6 46) (recordsTeam (record { start = 0; goal = 2; slip = 0 } ∷ [])) 1
 
 abbrev downward : List ℕ
 downward = 0 ∷ 2 ∷ []
 
 pub lent-width-and-height-exchanged : (r : RouteVerdict) → r ≡ routeVerdict (lentColumn 2 3) downward → r ≡ routeVerdict (lentColumn 3 2) downward → ⊥
-unfolding range only keep anyOf firstOf each wrongSide wrongGrid wrongByte wrongBytes isOpen onGrid cellAt landing reachFrom reach mayFollow wrongLimits wrongCount wrongEnds firstWrong share pairs firstShared refuseIf endsVerdict sharedVerdict judgeWith judge ifAccepted wrongMove wrongArrival wrongAt places firstWrongPlace placeVerdict planVerdict routeVerdict
+unfolding range only keep anyOf firstOf each wrongSide wrongGrid wrongByte wrongBytes isOpen onGrid cellAt landing reachFrom reach mayFollow wrongLimits wrongCount wrongCarrier firstWrong share pairs firstShared refuseIf carrierVerdict sharedVerdict judgeWith judge ifAccepted wrongMove wrongArrival wrongAt places firstWrongPlace placeVerdict planVerdict routeVerdict
 lent-width-and-height-exchanged r right wrong =
     let z : _≡_ {A = ℕ} 0 21 = ap (λ (v : RouteVerdict). routeTold v .number) (sym right ∙ wrong) in
     omega arith
 
--- one cell, 0→0, k 0, H 5: a delay bound of 5 is refused
-abbrev lentStay : ℕ → ℕ → Job
-lentStay = jobOf 1 1 (46 ∷ []) (recordsTeam (record { start = 0; goal = 0 } ∷ []))
+-- the second carrier slips and the first does not: it is still on cell 1 when the first comes, and would not be if the slip were the
+-- first's
+pub lent-slips-exchanged : (m : MeetingVerdict) → m ≡ meetingVerdict (lentCrossingOf 0 1) followed → m ≡ meetingVerdict (lentCrossingOf 1 0) followed → ⊥
+unfolding range greatest anyOf firstOf each wrongSide wrongGrid wrongByte wrongBytes isOpen wrongLimits wrongCount wrongCarrier firstWrong share pairs firstShared refuseIf carrierVerdict sharedVerdict judgeWith judge ifAccepted written meets swaps happens overPairs atStep candidates orClear chosen planClash compared meetingVerdict
+lent-slips-exchanged m right wrong =
+    let z : _≡_ {A = ℕ} 22 0 = ap (λ (v : MeetingVerdict). meetingTold v .number) (sym right ∙ wrong) in
+    omega arith
 
-pub lent-delay-and-horizon-exchanged : (m : MeetingVerdict) → m ≡ meetingVerdict (lentStay 0 5) (replicate 6 0) → m ≡ meetingVerdict (lentStay 5 0) (replicate 6 0) → ⊥
-unfolding range anyOf firstOf each wrongSide wrongGrid wrongByte wrongBytes isOpen wrongLimits wrongCount wrongEnds firstWrong share pairs firstShared refuseIf endsVerdict sharedVerdict judgeWith judge ifAccepted written meets swaps happens overPairs atStep candidates orClear chosen planClash compared meetingVerdict
-lent-delay-and-horizon-exchanged m right wrong =
-    let z : _≡_ {A = ℕ} 0 3 = ap (λ (v : MeetingVerdict). meetingTold v .number) (sym right ∙ wrong) in
+-- width 3, height 1, from cell 0, H 1: goal 1 with slip 2 is reached, goal 2 with slip 1 is not
+abbrev lentStep : ℕ → ℕ → Job
+lentStep goal slip = jobOf 3 1 (46 ∷ 46 ∷ 46 ∷ []) (recordsTeam (record { start = 0; goal = goal; slip = slip } ∷ [])) 1
+
+pub lent-goal-and-slip-exchanged : (r : RouteVerdict) → r ≡ routeVerdict (lentStep 1 2) (0 ∷ 1 ∷ []) → r ≡ routeVerdict (lentStep 2 1) (0 ∷ 1 ∷ []) → ⊥
+unfolding range only keep anyOf firstOf each wrongSide wrongGrid wrongByte wrongBytes isOpen onGrid cellAt landing reachFrom reach mayFollow wrongLimits wrongCount wrongCarrier firstWrong share pairs firstShared refuseIf carrierVerdict sharedVerdict judgeWith judge ifAccepted wrongMove wrongArrival wrongAt places firstWrongPlace placeVerdict planVerdict routeVerdict
+lent-goal-and-slip-exchanged r right wrong =
+    let z : _≡_ {A = ℕ} 0 21 = ap (λ (v : RouteVerdict). routeTold v .number) (sym right ∙ wrong) in
     omega arith

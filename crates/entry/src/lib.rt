@@ -17,7 +17,6 @@ pub fn plan(
     width: usize,
     height: usize,
     carriers: &[Carrier],
-    k: usize,
     h: usize,
     n: usize,
     columns: &mut [u16],
@@ -25,7 +24,7 @@ pub fn plan(
     layers: &mut [u8],
     output: &mut [u8],
 ) -> Answer
-    ensures { λ r. ⌜ Planned (jobOf width height (now (hall .entry)) (recordsTeam (now (carriers .entry))) k h) n (record { columns = now (columns .entry); plans = now (plans .entry); layers = now (layers .entry); output = now (output .entry) }) r (record { columns = now (columns .exit); plans = now (plans .exit); layers = now (layers .exit); output = now (output .exit) }) ⌝ }
+    ensures { λ r. ⌜ Planned (jobOf width height (now (hall .entry)) (recordsTeam (now (carriers .entry))) h) n (record { columns = now (columns .entry); plans = now (plans .entry); layers = now (layers .entry); output = now (output .entry) }) r (record { columns = now (columns .exit); plans = now (plans .exit); layers = now (layers .exit); output = now (output .exit) }) ⌝ }
 {
     let team = carriers::team_of_records(carriers);
     planner::plan(
@@ -33,7 +32,6 @@ pub fn plan(
         width,
         height,
         team,
-        k,
         h,
         n,
         columns,
@@ -48,14 +46,13 @@ pub fn check_routes(
     width: usize,
     height: usize,
     carriers: &[Carrier],
-    k: usize,
     h: usize,
     plan: &[u8],
 ) -> RouteVerdict
-    ensures { λ r. ⌜ r ≡ routeVerdict (jobOf width height (now (hall .entry)) (recordsTeam (now (carriers .entry))) k h) (now (plan .entry)) ⌝ }
+    ensures { λ r. ⌜ r ≡ routeVerdict (jobOf width height (now (hall .entry)) (recordsTeam (now (carriers .entry))) h) (now (plan .entry)) ⌝ }
 {
     let team = carriers::team_of_records(carriers);
-    checks::check_routes(hall, width, height, team, k, h, plan)
+    checks::check_routes(hall, width, height, team, h, plan)
 }
 
 pub fn check_meetings(
@@ -63,12 +60,11 @@ pub fn check_meetings(
     width: usize,
     height: usize,
     carriers: &[Carrier],
-    k: usize,
     h: usize,
     plan: &[u8],
 ) -> MeetingVerdict
-    ensures { λ r. ⌜ r ≡ meetingVerdict (jobOf width height (now (hall .entry)) (recordsTeam (now (carriers .entry))) k h) (now (plan .entry)) ⌝ }
+    ensures { λ r. ⌜ r ≡ meetingVerdict (jobOf width height (now (hall .entry)) (recordsTeam (now (carriers .entry))) h) (now (plan .entry)) ⌝ }
 {
     let team = carriers::team_of_records(carriers);
-    checks::check_meetings(hall, width, height, team, k, h, plan)
+    checks::check_meetings(hall, width, height, team, h, plan)
 }

@@ -21,12 +21,12 @@ pub record Facts (wrongN : Bool) (job : Job) : Type 0 where
   pub heightLeast : 1 ≤ job .hall .height
   pub heightMost : job .hall .height ≤ 16
   pub bytesLength : length (job .hall .bytes) ≡ job .hall .width * job .hall .height
-  pub delayMost : job .delay ≤ 4
   pub horizonMost : job .horizon ≤ 63
   pub countLeast : 1 ≤ job .count
   pub countMost : job .count ≤ 8
   pub startOpen : (i : ℕ) → i < job .count → T (isOpen (job .hall) (job .startOf i))
   pub goalOpen : (i : ℕ) → i < job .count → T (isOpen (job .hall) (job .goalOf i))
+  pub slipMost : (i : ℕ) → i < job .count → job .slipOf i ≤ 4
   pub startsApart : (i j : ℕ) → i < j → j < job .count → job .startOf i ≢ job .startOf j
   pub goalsApart : (i j : ℕ) → i < j → j < job .count → job .goalOf i ≢ job .goalOf j
 
@@ -40,12 +40,12 @@ accepted-facts wrongN job e =
       heightLeast = r .grid .rows .0;
       heightMost = r .grid .rows .1;
       bytesLength = r .bytes .all;
-      delayMost = r .limits .delay;
       horizonMost = r .limits .horizon;
       countLeast = r .count .least;
       countMost = r .count .most;
-      startOpen = λ i l. open-exact job (job .startOf i) .1 (r .ends i l .start);
-      goalOpen = λ i l. open-exact job (job .goalOf i) .1 (r .ends i l .goal);
+      startOpen = λ i l. open-exact job (job .startOf i) .1 (r .carriers i l .start);
+      goalOpen = λ i l. open-exact job (job .goalOf i) .1 (r .carriers i l .goal);
+      slipMost = λ i l. r .carriers i l .slip;
       startsApart = r .starts;
       goalsApart = r .goals;
     }

@@ -18,10 +18,10 @@ use Rattle.lists.proofs.Members.{member-range, member-map, member-each}
 use Rattle.lists.proofs.Passing.{fails-at, at-fails, FirstFact, first-fact}
 use Rattle.hall.specs.Hall.{size, wrongSide, wrongGrid, wrongByte, wrongBytes, isOpen}
 use Rattle.hall.proofs.RightHall.{grid-right, bytes-right}
-use Rattle.job.specs.Job.{Job, Pair, wrongLimits, wrongCapacity, wrongCount, wrongEnds, firstWrong, share, pairs, firstShared}
-use Rattle.job.specs.Due.{RightGrid, RightBytes, RightLimits, RightCapacity, RightCount, OpenCell, RightEnds, NoneShare, FirstShare, RightJob, Due, due-0, due-1, due-2, due-3, due-4, due-5, due-6, due-16}
+use Rattle.job.specs.Job.{Job, Pair, wrongLimits, wrongCapacity, wrongCount, wrongCarrier, firstWrong, share, pairs, firstShared}
+use Rattle.job.specs.Due.{RightGrid, RightBytes, RightLimits, RightCapacity, RightCount, OpenCell, RightCarrier, NoneShare, FirstShare, RightJob, Due, due-0, due-1, due-2, due-3, due-4, due-5, due-6, due-16}
 use Rattle.job.specs.Found.{sharedBy}
-use Rattle.job.specs.Verdict.{verdictTold, endsVerdict, sharedVerdict, judgeWith, judge, IsAccepted}
+use Rattle.job.specs.Verdict.{verdictTold, carrierVerdict, sharedVerdict, judgeWith, judge, IsAccepted}
 use Rattle.job.specs.declared.Told.{Told}
 use Rattle.job.specs.declared.Verdict.{Verdict}
 use Rattle.job.specs.declared.Verdict.the-variants.{Accepted, WrongGrid, WrongBytes, WrongLimits, WrongCount, SharedStart, SharedGoal}
@@ -66,18 +66,9 @@ bytes-exact job =
           (at-fails wrongByte (job .hall .bytes) (λ v l. known-byte (getD (job .hall .bytes) v 0) (r .known v l))),
     )
 
-limits-right : (job : Job) → wrongLimits job ≡ false → (job .delay ≤ 4) × (job .horizon ≤ 63)
-unfolding wrongLimits
-limits-right job e =
-    let (k, h) = or-fails (ltb 4 (job .delay)) (ltb 63 (job .horizon)) e in
-    (ltb-false 4 (job .delay) k, ltb-false 63 (job .horizon) h)
-
 limits-exact : (job : Job) → (wrongLimits job ≡ false) ↔ RightLimits job
 unfolding wrongLimits
-limits-exact job = (
-  λ e. let (k, h) = limits-right job e in record { delay = k; horizon = h },
-  λ r. both-fail (ltb 4 (job .delay)) (ltb 63 (job .horizon)) (le-ltb 4 (job .delay) (r .delay)) (le-ltb 63 (job .horizon) (r .horizon)),
-)
+limits-exact job = (λ e. record { horizon = ltb-false 63 (job .horizon) e }, λ r. le-ltb 63 (job .horizon) (r .horizon))
 
 pub capacity-exact : (n : ℕ) → (wrongCapacity n ≡ false) ↔ RightCapacity n
 unfolding wrongCapacity
@@ -112,14 +103,18 @@ open-exact job v =
       λ c. both-and inside open46 (of-true (lt-ltb v (size (job .hall)) (c .inside))) (of-true (eq-eqb (getD (job .hall .bytes) v 0) 46 (c .byte))),
     )
 
-ends-exact : (job : Job) (i : ℕ) → (wrongEnds job i ≡ false) ↔ RightEnds job i
-unfolding wrongEnds
-ends-exact job i =
+carrier-exact : (job : Job) (i : ℕ) → (wrongCarrier job i ≡ false) ↔ RightCarrier job i
+unfolding wrongCarrier
+carrier-exact job i =
     let s : Bool = isOpen (job .hall) (job .startOf i) in
-    let g : Bool = isOpen (job .hall) (job .goalOf i) in (
-      λ e. let (a, b) = or-fails (not s) (not g) e in
-          record { start = open-exact job (job .startOf i) .0 (of-true (not-false s a)); goal = open-exact job (job .goalOf i) .0 (of-true (not-false g b)) },
-      λ r. both-fail (not s) (not g) (not-fails s (open-exact job (job .startOf i) .1 (r .start))) (not-fails g (open-exact job (job .goalOf i) .1 (r .goal))),
+    let g : Bool = isOpen (job .hall) (job .goalOf i) in
+    let k : Bool = ltb 4 (job .slipOf i) in (
+      λ e. let (cells, c) = or-fails (not s || not g) k e in
+          let (a, b) = or-fails (not s) (not g) cells in
+          record { start = open-exact job (job .startOf i) .0 (of-true (not-false s a)); goal = open-exact job (job .goalOf i) .0 (of-true (not-false g b)); slip = ltb-false 4 (job .slipOf i) c },
+      λ r. both-fail (not s || not g) k
+          (both-fail (not s) (not g) (not-fails s (open-exact job (job .startOf i) .1 (r .start))) (not-fails g (open-exact job (job .goalOf i) .1 (r .goal))))
+          (le-ltb 4 (job .slipOf i) (r .slip)),
     )
 
 -- ---- the pairs, in their order
@@ -190,8 +185,8 @@ due-six job N told (due-2 g w) e = absurd (omega arith)
 due-six job N told (due-3 g b w) e = absurd (omega arith)
 due-six job N told (due-4 g b l w) e = absurd (omega arith)
 due-six job N told (due-5 g b l c i h w first) e = absurd (omega arith)
-due-six job N told (due-6 g b l c ends i j first) e = first
-due-six job N told (due-16 g b l c ends starts i j first) e = absurd (omega arith)
+due-six job N told (due-6 g b l c carriers i j first) e = first
+due-six job N told (due-16 g b l c carriers starts i j first) e = absurd (omega arith)
 due-six job N told (due-0 r n) e = absurd (omega arith)
 
 pub due-sixteen : (job : Job) (N : Type 0) (told : Told) → Due job N told → told .number ≡ 16 → NoneShare (job .startOf) (job .count) × FirstShare (job .goalOf) (job .count) (told .carrier) (told .other)
@@ -200,8 +195,8 @@ due-sixteen job N told (due-2 g w) e = absurd (omega arith)
 due-sixteen job N told (due-3 g b w) e = absurd (omega arith)
 due-sixteen job N told (due-4 g b l w) e = absurd (omega arith)
 due-sixteen job N told (due-5 g b l c i h w first) e = absurd (omega arith)
-due-sixteen job N told (due-6 g b l c ends i j first) e = absurd (omega arith)
-due-sixteen job N told (due-16 g b l c ends starts i j first) e = (starts, first)
+due-sixteen job N told (due-6 g b l c carriers i j first) e = absurd (omega arith)
+due-sixteen job N told (due-16 g b l c carriers starts i j first) e = (starts, first)
 due-sixteen job N told (due-0 r n) e = absurd (omega arith)
 
 -- ---- the rows, in the order of their numbers
@@ -213,8 +208,8 @@ module _ (wrongN : Bool) (N : Type 0) (exact : (wrongN ≡ false) ↔ N) (job : 
     λ r. both-fail (wrongLimits job) wrongN (limits-exact job .1 (r .0)) (exact .1 (r .1)),
   )
 
-  abbrev AllEnds : Type 0
-  AllEnds = (i : ℕ) → i < job .count → RightEnds job i
+  abbrev AllCarriers : Type 0
+  AllCarriers = (i : ℕ) → i < job .count → RightCarrier job i
 
   -- what is right before 6 and 16 are asked
   pub record Before : Type 0 where
@@ -222,52 +217,52 @@ module _ (wrongN : Bool) (N : Type 0) (exact : (wrongN ≡ false) ↔ N) (job : 
     pub bytes : RightBytes job
     pub limits : RightLimits job × N
     pub count : RightCount job
-    pub ends : AllEnds
+    pub carriers : AllCarriers
 
   goals-due : Before → NoneShare (job .startOf) (job .count) → (o : Option Pair) → ShareFact (job .goalOf) (job .count) o → Due job N (verdictTold (sharedVerdict (λ i j. SharedGoal i j) o Accepted))
   unfolding sharedVerdict ShareFact
-  goals-due r starts none fact = due-0 (record { grid = r .grid; bytes = r .bytes; limits = r .limits .0; count = r .count; ends = r .ends; starts = starts; goals = fact }) (r .limits .1)
-  goals-due r starts (some p) fact = due-16 (r .grid) (r .bytes) (r .limits) (r .count) (r .ends) starts (p .one) (p .two) fact
+  goals-due r starts none fact = due-0 (record { grid = r .grid; bytes = r .bytes; limits = r .limits .0; count = r .count; carriers = r .carriers; starts = starts; goals = fact }) (r .limits .1)
+  goals-due r starts (some p) fact = due-16 (r .grid) (r .bytes) (r .limits) (r .count) (r .carriers) starts (p .one) (p .two) fact
 
   shared-due : Before → (o : Option Pair) → ShareFact (job .startOf) (job .count) o
       → Due job N (verdictTold (sharedVerdict (λ i j. SharedStart i j) o (sharedVerdict (λ i j. SharedGoal i j) (firstShared (job .goalOf) (job .count)) Accepted)))
   unfolding sharedVerdict ShareFact
   shared-due r none fact = goals-due r fact (firstShared (job .goalOf) (job .count)) (first-share (job .goalOf) (job .count))
-  shared-due r (some p) fact = due-6 (r .grid) (r .bytes) (r .limits) (r .count) (r .ends) (p .one) (p .two) fact
+  shared-due r (some p) fact = due-6 (r .grid) (r .bytes) (r .limits) (r .count) (r .carriers) (p .one) (p .two) fact
 
-  ends-due : RightGrid job → RightBytes job → RightLimits job × N → RightCount job → (o : Option ℕ)
-      → FirstFact (wrongEnds job) (λ i. i < job .count) (range 0 (job .count)) o → LeastFact (wrongEnds job) (λ i j. i ≤ j) (range 0 (job .count)) o → Due job N (verdictTold (endsVerdict o (sharedBy (job .startOf) (job .goalOf) (job .count))))
-  unfolding endsVerdict FirstFact LeastFact
-  ends-due grid bytes limits count none fact least =
+  carriers-due : RightGrid job → RightBytes job → RightLimits job × N → RightCount job → (o : Option ℕ)
+      → FirstFact (wrongCarrier job) (λ i. i < job .count) (range 0 (job .count)) o → LeastFact (wrongCarrier job) (λ i j. i ≤ j) (range 0 (job .count)) o → Due job N (verdictTold (carrierVerdict o (sharedBy (job .startOf) (job .goalOf) (job .count))))
+  unfolding carrierVerdict FirstFact LeastFact
+  carriers-due grid bytes limits count none fact least =
       shared-due (record {
         grid = grid;
         bytes = bytes;
         limits = limits;
         count = count;
-        ends = λ i l. ends-exact job i .0 (is-false (every-member (λ i. T (wrongEnds job i) → ⊥) (range 0 (job .count)) fact (member-range {x = i} 0 (job .count) (omega arith) (omega arith))));
+        carriers = λ i l. carrier-exact job i .0 (is-false (every-member (λ i. T (wrongCarrier job i) → ⊥) (range 0 (job .count)) fact (member-range {x = i} 0 (job .count) (omega arith) (omega arith))));
       }) (firstShared (job .startOf) (job .count)) (first-share (job .startOf) (job .count))
-  ends-due grid bytes limits count (some i) fact least =
-      due-5 grid bytes limits count i (fact .1) (λ r. of-false (ends-exact job i .1 r) (fact .0))
-      (λ j l. ends-exact job j .0
-      (is-false (λ t. let k : i ≤ j = every-member (λ j. T (wrongEnds job j) → i ≤ j) (range 0 (job .count)) least (member-range {x = j} 0 (job .count) (omega arith) (omega (arith, fact .1))) t in omega arith)))
+  carriers-due grid bytes limits count (some i) fact least =
+      due-5 grid bytes limits count i (fact .1) (λ r. of-false (carrier-exact job i .1 r) (fact .0))
+      (λ j l. carrier-exact job j .0
+      (is-false (λ t. let k : i ≤ j = every-member (λ j. T (wrongCarrier job j) → i ≤ j) (range 0 (job .count)) least (member-range {x = j} 0 (job .count) (omega arith) (omega (arith, fact .1))) t in omega arith)))
 
-  abbrev fromEnds : Verdict
-  fromEnds = endsVerdict (firstWrong job) (sharedBy (job .startOf) (job .goalOf) (job .count))
+  abbrev fromCarriers : Verdict
+  fromCarriers = carrierVerdict (firstWrong job) (sharedBy (job .startOf) (job .goalOf) (job .count))
 
-  count-due : RightGrid job → RightBytes job → RightLimits job × N → (b : Bool) → wrongCount job ≡ b → Due job N (verdictTold (refuseIf b WrongCount fromEnds))
+  count-due : RightGrid job → RightBytes job → RightLimits job × N → (b : Bool) → wrongCount job ≡ b → Due job N (verdictTold (refuseIf b WrongCount fromCarriers))
   unfolding refuseIf firstWrong
   count-due grid bytes limits true e = due-4 grid bytes limits (λ r. not-both e (count-exact job .1 r))
   count-due grid bytes limits false e =
-      ends-due grid bytes limits (count-exact job .0 e) (firstWrong job)
-      (first-fact (wrongEnds job) (λ i. i < job .count) (range 0 (job .count)) (every-below (λ i. i < job .count) (job .count) (λ i l. l)))
-      (first-least (wrongEnds job) (λ i j. i ≤ j) (λ i. omega arith) (range 0 (job .count)) (ordered-range (λ i j. i ≤ j) 0 (job .count) (λ i j low less high. omega arith)))
+      carriers-due grid bytes limits (count-exact job .0 e) (firstWrong job)
+      (first-fact (wrongCarrier job) (λ i. i < job .count) (range 0 (job .count)) (every-below (λ i. i < job .count) (job .count) (λ i l. l)))
+      (first-least (wrongCarrier job) (λ i j. i ≤ j) (λ i. omega arith) (range 0 (job .count)) (ordered-range (λ i j. i ≤ j) 0 (job .count) (λ i j low less high. omega arith)))
 
-  limits-due : RightGrid job → RightBytes job → (b : Bool) → (wrongLimits job || wrongN) ≡ b → Due job N (verdictTold (refuseIf b WrongLimits (refuseIf (wrongCount job) WrongCount fromEnds)))
+  limits-due : RightGrid job → RightBytes job → (b : Bool) → (wrongLimits job || wrongN) ≡ b → Due job N (verdictTold (refuseIf b WrongLimits (refuseIf (wrongCount job) WrongCount fromCarriers)))
   unfolding refuseIf
   limits-due grid bytes true e = due-3 grid bytes (λ r. not-both e (limits-both .1 r))
   limits-due grid bytes false e = count-due grid bytes (limits-both .0 e) (wrongCount job) refl
 
-  bytes-due : RightGrid job → (b : Bool) → wrongBytes (job .hall) ≡ b → Due job N (verdictTold (refuseIf b WrongBytes (refuseIf (wrongLimits job || wrongN) WrongLimits (refuseIf (wrongCount job) WrongCount fromEnds))))
+  bytes-due : RightGrid job → (b : Bool) → wrongBytes (job .hall) ≡ b → Due job N (verdictTold (refuseIf b WrongBytes (refuseIf (wrongLimits job || wrongN) WrongLimits (refuseIf (wrongCount job) WrongCount fromCarriers))))
   unfolding refuseIf
   bytes-due grid true e = due-2 grid (λ r. not-both e (bytes-exact job .1 r))
   bytes-due grid false e = limits-due grid (bytes-exact job .0 e) (wrongLimits job || wrongN) refl
@@ -277,7 +272,7 @@ module _ (wrongN : Bool) (N : Type 0) (exact : (wrongN ≡ false) ↔ N) (job : 
   unfolding judgeWith refuseIf
   judged-due = go (wrongGrid (job .hall)) refl
     where
-      go : (b : Bool) → wrongGrid (job .hall) ≡ b → Due job N (verdictTold (refuseIf b WrongGrid (refuseIf (wrongBytes (job .hall)) WrongBytes (refuseIf (wrongLimits job || wrongN) WrongLimits (refuseIf (wrongCount job) WrongCount fromEnds)))))
+      go : (b : Bool) → wrongGrid (job .hall) ≡ b → Due job N (verdictTold (refuseIf b WrongGrid (refuseIf (wrongBytes (job .hall)) WrongBytes (refuseIf (wrongLimits job || wrongN) WrongLimits (refuseIf (wrongCount job) WrongCount fromCarriers)))))
       go true e = due-1 (λ r. not-both e (grid-exact job .1 r))
       go false e = bytes-due (grid-exact job .0 e) (wrongBytes (job .hall)) refl
 
@@ -289,8 +284,8 @@ module _ (wrongN : Bool) (N : Type 0) (exact : (wrongN ≡ false) ↔ N) (job : 
   zero-right told (due-3 g b w) e = absurd (omega arith)
   zero-right told (due-4 g b l w) e = absurd (omega arith)
   zero-right told (due-5 g b l c i h w first) e = absurd (omega arith)
-  zero-right told (due-6 g b l c ends i j first) e = absurd (omega arith)
-  zero-right told (due-16 g b l c ends starts i j first) e = absurd (omega arith)
+  zero-right told (due-6 g b l c carriers i j first) e = absurd (omega arith)
+  zero-right told (due-16 g b l c carriers starts i j first) e = absurd (omega arith)
   zero-right told (due-0 r n) e = (r, n)
 
   right-zero : (told : Told) → Due job N told → RightJob job × N → told .number ≡ 0
@@ -298,9 +293,9 @@ module _ (wrongN : Bool) (N : Type 0) (exact : (wrongN ≡ false) ↔ N) (job : 
   right-zero told (due-2 g w) r = absurd (w (r .0 .bytes))
   right-zero told (due-3 g b w) r = absurd (w (r .0 .limits, r .1))
   right-zero told (due-4 g b l w) r = absurd (w (r .0 .count))
-  right-zero told (due-5 g b l c i h w first) r = absurd (w (r .0 .ends i h))
-  right-zero told (due-6 g b l c ends i j first) r = absurd (r .0 .starts i j (first .apart) (first .inside) (first .shared))
-  right-zero told (due-16 g b l c ends starts i j first) r = absurd (r .0 .goals i j (first .apart) (first .inside) (first .shared))
+  right-zero told (due-5 g b l c i h w first) r = absurd (w (r .0 .carriers i h))
+  right-zero told (due-6 g b l c carriers i j first) r = absurd (r .0 .starts i j (first .apart) (first .inside) (first .shared))
+  right-zero told (due-16 g b l c carriers starts i j first) r = absurd (r .0 .goals i j (first .apart) (first .inside) (first .shared))
   right-zero told (due-0 q n) r = refl
 
   pub accepted-right : (judgeWith wrongN job ≡ Accepted) ↔ (RightJob job × N)
@@ -320,9 +315,9 @@ module _ (wrongN : Bool) (N : Type 0) (exact : (wrongN ≡ false) ↔ N) (job : 
   starts-six r told (due-2 g w) s = absurd (w (r .bytes))
   starts-six r told (due-3 g b w) s = absurd (w (r .limits))
   starts-six r told (due-4 g b l w) s = absurd (w (r .count))
-  starts-six r told (due-5 g b l c i h w first) s = absurd (w (r .ends i h))
-  starts-six r told (due-6 g b l c ends i j first) s = refl
-  starts-six r told (due-16 g b l c ends starts i j first) (a, b′, apart, inside, e) = absurd (starts a b′ apart inside e)
+  starts-six r told (due-5 g b l c i h w first) s = absurd (w (r .carriers i h))
+  starts-six r told (due-6 g b l c carriers i j first) s = refl
+  starts-six r told (due-16 g b l c carriers starts i j first) (a, b′, apart, inside, e) = absurd (starts a b′ apart inside e)
   starts-six r told (due-0 q n) (a, b, apart, inside, e) = absurd (q .starts a b apart inside e)
 
   goals-sixteen : Before → (told : Told) → Due job N told → NoneShare (job .startOf) (job .count) → Share (job .goalOf) → told .number ≡ 16
@@ -330,9 +325,9 @@ module _ (wrongN : Bool) (N : Type 0) (exact : (wrongN ≡ false) ↔ N) (job : 
   goals-sixteen r told (due-2 g w) apart s = absurd (w (r .bytes))
   goals-sixteen r told (due-3 g b w) apart s = absurd (w (r .limits))
   goals-sixteen r told (due-4 g b l w) apart s = absurd (w (r .count))
-  goals-sixteen r told (due-5 g b l c i h w first) apart s = absurd (w (r .ends i h))
-  goals-sixteen r told (due-6 g b l c ends i j first) apart s = absurd (apart i j (first .apart) (first .inside) (first .shared))
-  goals-sixteen r told (due-16 g b l c ends starts i j first) apart s = refl
+  goals-sixteen r told (due-5 g b l c i h w first) apart s = absurd (w (r .carriers i h))
+  goals-sixteen r told (due-6 g b l c carriers i j first) apart s = absurd (apart i j (first .apart) (first .inside) (first .shared))
+  goals-sixteen r told (due-16 g b l c carriers starts i j first) apart s = refl
   goals-sixteen r told (due-0 q n) apart (a, b, less, inside, e) = absurd (q .goals a b less inside e)
 
   pub six-exactly : Before → (verdictTold (judgeWith wrongN job) .number ≡ 6) ↔ Share (job .startOf)

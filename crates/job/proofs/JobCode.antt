@@ -9,21 +9,21 @@ use mathlib.Core.List.{List, map}
 use mathlib.Core.Option.{Option, none}
 use Rattle.lists.specs.Lists.{range, each, firstOf, refuseIf}
 use Rattle.hall.specs.Hall.{wrongGrid, wrongBytes}
-use Rattle.job.specs.Job.{Job, Pair, wrongLimits, wrongCount, wrongEnds, firstWrong, share, pairs, firstShared}
+use Rattle.job.specs.Job.{Job, Pair, wrongLimits, wrongCount, wrongCarrier, firstWrong, share, pairs, firstShared}
 use Rattle.job.specs.Team.{jobOf}
-use Rattle.job.specs.Verdict.{endsVerdict, sharedVerdict, judgeWith}
-use Rattle.job.specs.Found.{sharedBy, pairsFrom, endFound, pairFound}
+use Rattle.job.specs.Verdict.{carrierVerdict, sharedVerdict, judgeWith}
+use Rattle.job.specs.Found.{sharedBy, pairsFrom, wrongFound, pairFound}
 use Rattle.job.specs.declared.Team.{Team}
-use Rattle.job.specs.declared.Ends.{Ends}
-use Rattle.job.specs.declared.Ends.the-variants.{Right, Wrong}
+use Rattle.job.specs.declared.Carriers.{Carriers}
+use Rattle.job.specs.declared.Carriers.the-variants.{Right, Wrong}
 use Rattle.job.specs.declared.Shared.{Shared}
 use Rattle.job.specs.declared.Shared.the-variants.{Nobody, Two}
 use Rattle.job.specs.declared.Verdict.{Verdict}
-use Rattle.job.specs.declared.Verdict.the-variants.{WrongGrid, WrongBytes, WrongLimits, WrongCount, WrongEnds}
+use Rattle.job.specs.declared.Verdict.the-variants.{WrongGrid, WrongBytes, WrongLimits, WrongCount, WrongCarrier}
 
 -- ---- the definitions, as the loops go through them
 
-pub wrong-from : (job : Job) → firstWrong job ≡ firstOf (wrongEnds job) (range 0 (job .count - 0))
+pub wrong-from : (job : Job) → firstWrong job ≡ firstOf (wrongCarrier job) (range 0 (job .count - 0))
 unfolding firstWrong
 wrong-from job = let e : job .count - 0 ≡ job .count = omega arith in rw e
 
@@ -37,13 +37,13 @@ shared-from endOf m = let e : m - 0 ≡ m = omega arith in rw e
 
 -- ---- answers 5, 6 and 16
 
-pub found-wrong : (ends : Ends) (i : ℕ) (o : Option ℕ) (rest : Verdict) → ends ≡ Wrong i → endFound ends ≡ o → WrongEnds i ≡ endsVerdict o rest
-unfolding endFound endsVerdict
-found-wrong ends i o rest e f = rw (← f, e)
+pub found-wrong : (carriers : Carriers) (i : ℕ) (o : Option ℕ) (rest : Verdict) → carriers ≡ Wrong i → wrongFound carriers ≡ o → WrongCarrier i ≡ carrierVerdict o rest
+unfolding wrongFound carrierVerdict
+found-wrong carriers i o rest e f = rw (← f, e)
 
-pub found-right : (ends : Ends) (o : Option ℕ) (rest : Verdict) → ends ≡ Right → endFound ends ≡ o → rest ≡ endsVerdict o rest
-unfolding endFound endsVerdict
-found-right ends o rest e f = rw (← f, e)
+pub found-right : (carriers : Carriers) (o : Option ℕ) (rest : Verdict) → carriers ≡ Right → wrongFound carriers ≡ o → rest ≡ carrierVerdict o rest
+unfolding wrongFound carrierVerdict
+found-right carriers o rest e f = rw (← f, e)
 
 module _ (refusal : ℕ → ℕ → Verdict) (shared : Shared) (o : Option Pair) (rest : Verdict) where
   pub found-nobody : shared ≡ Nobody → pairFound shared ≡ o → rest ≡ sharedVerdict refusal o rest
@@ -84,11 +84,11 @@ module _ (wrongN : Bool) (job : Job) where
   unfolding judgeWith refuseIf
   judge-count g b l n c = simp (g, b, l, n, c)
 
-  pub judge-rest : wrongGrid (job .hall) ≡ false → wrongBytes (job .hall) ≡ false → wrongLimits job ≡ false → wrongN ≡ false → wrongCount job ≡ false → endsVerdict (firstWrong job) (sharedBy (job .startOf) (job .goalOf) (job .count)) ≡ judgeWith wrongN job
+  pub judge-rest : wrongGrid (job .hall) ≡ false → wrongBytes (job .hall) ≡ false → wrongLimits job ≡ false → wrongN ≡ false → wrongCount job ≡ false → carrierVerdict (firstWrong job) (sharedBy (job .startOf) (job .goalOf) (job .count)) ≡ judgeWith wrongN job
   unfolding judgeWith refuseIf
   judge-rest g b l n c = simp (g, b, l, n, c)
 
--- answer 5 looks at neither k nor H
-pub ends-same : (width height : ℕ) (bytes : List ℕ) (team : Team) (k h : ℕ) (rest : Verdict) → endsVerdict (firstWrong (jobOf width height bytes team 0 0)) rest ≡ endsVerdict (firstWrong (jobOf width height bytes team k h)) rest
-unfolding firstWrong wrongEnds
-ends-same width height bytes team k h rest = refl
+-- answer 5 does not look at H
+pub carriers-same : (width height : ℕ) (bytes : List ℕ) (team : Team) (h : ℕ) (rest : Verdict) → carrierVerdict (firstWrong (jobOf width height bytes team 0)) rest ≡ carrierVerdict (firstWrong (jobOf width height bytes team h)) rest
+unfolding firstWrong wrongCarrier
+carriers-same width height bytes team h rest = refl

@@ -8,7 +8,7 @@ use denote.Enum.Declared.{tagOf}
 use types.Run.{OneOf, miss}
 use Rattle.job.specs.Verdict.{verdictTold, ifAccepted}
 use Rattle.job.specs.declared.Verdict.{Verdict}
-use Rattle.job.specs.declared.Verdict.the-variants.{Accepted, WrongGrid, WrongBytes, WrongLimits, WrongCount, WrongEnds, SharedStart, SharedGoal}
+use Rattle.job.specs.declared.Verdict.the-variants.{Accepted, WrongGrid, WrongBytes, WrongLimits, WrongCount, WrongCarrier, SharedStart, SharedGoal}
 use Rattle.job.proofs.Verdict.{the-type}
 
 -- the numbers that refuse a job
@@ -22,7 +22,7 @@ refused-number WrongGrid = inr (inl (omega arith, omega arith))
 refused-number WrongBytes = inr (inl (omega arith, omega arith))
 refused-number WrongLimits = inr (inl (omega arith, omega arith))
 refused-number WrongCount = inr (inl (omega arith, omega arith))
-refused-number (WrongEnds i) = inr (inl (omega arith, omega arith))
+refused-number (WrongCarrier i) = inr (inl (omega arith, omega arith))
 refused-number (SharedStart i j) = inr (inl (omega arith, omega arith))
 refused-number (SharedGoal i j) = inr (inr refl)
 
@@ -69,7 +69,7 @@ if-refused WrongGrid go stop n = refl
 if-refused WrongBytes go stop n = refl
 if-refused WrongLimits go stop n = refl
 if-refused WrongCount go stop n = refl
-if-refused (WrongEnds i) go stop n = refl
+if-refused (WrongCarrier i) go stop n = refl
 if-refused (SharedStart i j) go stop n = refl
 if-refused (SharedGoal i j) go stop n = refl
 

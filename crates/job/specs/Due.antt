@@ -19,9 +19,8 @@ pub record RightBytes (job : Job) : Type 0 where
   pub all : length (job .hall .bytes) ≡ job .hall .width * job .hall .height
   pub known : (v : ℕ) → v < length (job .hall .bytes) → (getD (job .hall .bytes) v 0 ≡ 46) ⊎ (getD (job .hall .bytes) v 0 ≡ 35)
 
--- 'the delay bound k (0 to 4), the horizon H (0 to 63)'
+-- 'the horizon H (0 to 63)'
 pub record RightLimits (job : Job) : Type 0 where
-  pub delay : job .delay ≤ 4
   pub horizon : job .horizon ≤ 63
 
 -- 'the capacity N (1 to 1,024 records)'
@@ -39,9 +38,11 @@ pub record OpenCell (job : Job) (v : ℕ) : Type 0 where
   pub inside : v < job .hall .width * job .hall .height
   pub byte : getD (job .hall .bytes) v 0 ≡ 46
 
-pub record RightEnds (job : Job) (i : ℕ) : Type 0 where
+-- both ends on open cells, and P3: 'its own slip, 0 to 4'
+pub record RightCarrier (job : Job) (i : ℕ) : Type 0 where
   pub start : OpenCell job (job .startOf i)
   pub goal : OpenCell job (job .goalOf i)
+  pub slip : job .slipOf i ≤ 4
 
 -- no two of m carriers have one end, a start or a goal by `endOf`
 abbrev pub NoneShare : (ℕ → ℕ) → ℕ → Type 0
@@ -60,7 +61,7 @@ pub record RightJob (job : Job) : Type 0 where
   pub bytes : RightBytes job
   pub limits : RightLimits job
   pub count : RightCount job
-  pub ends : (i : ℕ) → i < job .count → RightEnds job i
+  pub carriers : (i : ℕ) → i < job .count → RightCarrier job i
   pub starts : NoneShare (job .startOf) (job .count)
   pub goals : NoneShare (job .goalOf) (job .count)
 
@@ -72,9 +73,9 @@ pub data Due (job : Job) (N : Type 0) : Told → Type 0 where
   due-3 : RightGrid job → RightBytes job → (RightLimits job × N → ⊥) → Due job N (bare 3)
   due-4 : RightGrid job → RightBytes job → RightLimits job × N → (RightCount job → ⊥) → Due job N (bare 4)
   due-5 : RightGrid job → RightBytes job → RightLimits job × N → RightCount job
-      → (i : ℕ) → i < job .count → (RightEnds job i → ⊥) → ((j : ℕ) → j < i → RightEnds job j) → Due job N (named 5 i 0)
-  due-6 : RightGrid job → RightBytes job → RightLimits job × N → RightCount job → ((i : ℕ) → i < job .count → RightEnds job i)
+      → (i : ℕ) → i < job .count → (RightCarrier job i → ⊥) → ((j : ℕ) → j < i → RightCarrier job j) → Due job N (named 5 i 0)
+  due-6 : RightGrid job → RightBytes job → RightLimits job × N → RightCount job → ((i : ℕ) → i < job .count → RightCarrier job i)
       → (i j : ℕ) → FirstShare (job .startOf) (job .count) i j → Due job N (named 6 i j)
-  due-16 : RightGrid job → RightBytes job → RightLimits job × N → RightCount job → ((i : ℕ) → i < job .count → RightEnds job i)
+  due-16 : RightGrid job → RightBytes job → RightLimits job × N → RightCount job → ((i : ℕ) → i < job .count → RightCarrier job i)
       → NoneShare (job .startOf) (job .count) → (i j : ℕ) → FirstShare (job .goalOf) (job .count) i j → Due job N (named 16 i j)
   due-0 : RightJob job → N → Due job N (bare 0)

@@ -1,4 +1,4 @@
--- What the code of the job check finds, as the definitions say it: a carrier with a wrong end, two that share one, or none.
+-- What the code of the job check finds, as the definitions say it: a carrier that is wrong, two that share an end, or none.
 use Prim.Native.Nat.{ℕ, suc, _-_}
 use mathlib.Core.List.{List, map}
 use mathlib.Core.Option.{Option, none, some}
@@ -8,8 +8,8 @@ use Rattle.job.specs.Job.{Pair, firstShared}
 use Rattle.job.specs.Verdict.{sharedVerdict}
 use Rattle.job.specs.declared.Verdict.{Verdict}
 use Rattle.job.specs.declared.Verdict.the-variants.{Accepted, SharedStart, SharedGoal}
-use Rattle.job.specs.declared.Ends.{Ends}
-use Rattle.job.specs.declared.Ends.the-variants.{Right, Wrong}
+use Rattle.job.specs.declared.Carriers.{Carriers}
+use Rattle.job.specs.declared.Carriers.the-variants.{Right, Wrong}
 use Rattle.job.specs.declared.Shared.{Shared}
 use Rattle.job.specs.declared.Shared.the-variants.{Nobody, Two}
 
@@ -25,9 +25,9 @@ sharedBy startOf goalOf m = sharedVerdict (λ i j. SharedStart i j) (firstShared
 unfoldable pub pairsFrom : ℕ → ℕ → List Pair
 pairsFrom m i = map (λ j. record { one = i; two = j }) (range (suc i) (m - suc i))
 
-unfoldable pub endFound : Ends → Option ℕ
-endFound Right = none
-endFound (Wrong i) = some i
+unfoldable pub wrongFound : Carriers → Option ℕ
+wrongFound Right = none
+wrongFound (Wrong i) = some i
 
 unfoldable pub pairFound : Shared → Option Pair
 pairFound Nobody = none

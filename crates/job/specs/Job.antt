@@ -1,6 +1,6 @@
--- Document 01: 'A job is a hall, a list of carriers (each a record of start cell and goal cell, numbered from 0), the
--- delay bound k (0 to 4), the horizon H (0 to 63) and the capacity N'. The two checks have no N, so it stands beside.
--- The carriers are read by their number, so that every form in which a caller lends them is the same job.
+-- Document 01: 'A job is a hall, a list of carriers (each a record of start cell and goal cell, numbered from 0)', and 'the horizon
+-- H (0 to 63) and the capacity N'. Document 02, P3: 'Each carrier's record now has its own slip, 0 to 4.' The two checks have no N, so
+-- it stands beside. The carriers are read by their number, so that every form in which a caller lends them is the same job.
 use Prim.Native.Nat.{ℕ, suc, _+_, _-_, _*_}
 use mathlib.Core.Bool.{Bool, not, _||_}
 use mathlib.Core.List.{List, map}
@@ -15,15 +15,8 @@ pub record Job : Type 0 where
   pub count : ℕ
   pub startOf : ℕ → ℕ
   pub goalOf : ℕ → ℕ
-  pub delay : ℕ
+  pub slipOf : ℕ → ℕ
   pub horizon : ℕ
-
--- how many steps carrier i may slip, and the most that any may: document 01 gives every carrier k
-abbrev pub slipOf : Job → ℕ → ℕ
-slipOf job i = job .delay
-
-abbrev pub mostSlip : Job → ℕ
-mostSlip job = job .delay
 
 -- the bytes of a plan: 'carrier by carrier, its cells for steps 0 to H'
 abbrev pub planLength : Job → ℕ
@@ -32,8 +25,8 @@ planLength job = job .count * (job .horizon + 1)
 abbrev pub planCell : Job → List ℕ → ℕ → ℕ → ℕ
 planCell job plan i t = getD plan (i * (job .horizon + 1) + t) 0
 
-abbrev pub mostDelay : ℕ
-mostDelay = 4
+abbrev pub mostSlip : ℕ
+mostSlip = 4
 
 abbrev pub mostHorizon : ℕ
 mostHorizon = 63
@@ -44,9 +37,9 @@ mostRecords = 1024
 abbrev pub mostCarriers : ℕ
 mostCarriers = 8
 
--- answer 3: 'k above 4, H above 63, or N is 0 or above 1,024'
+-- answer 3: 'H above 63, or N is 0 or above 1,024'. P3: '3 speaks of H and N only'.
 unfoldable pub wrongLimits : Job → Bool
-wrongLimits job = ltb mostDelay (job .delay) || ltb mostHorizon (job .horizon)
+wrongLimits job = ltb mostHorizon (job .horizon)
 
 unfoldable pub wrongCapacity : ℕ → Bool
 wrongCapacity n = eqb n 0 || ltb mostRecords n
@@ -55,12 +48,12 @@ wrongCapacity n = eqb n 0 || ltb mostRecords n
 unfoldable pub wrongCount : Job → Bool
 wrongCount job = eqb (job .count) 0 || ltb mostCarriers (job .count)
 
--- answer 5: 'a start or goal is outside the grid or closed'; told is 'first such carrier'
-unfoldable pub wrongEnds : Job → ℕ → Bool
-wrongEnds job i = not (isOpen (job .hall) (job .startOf i)) || not (isOpen (job .hall) (job .goalOf i))
+-- answer 5: 'a start or goal is outside the grid or closed'; P3: 'a slip above 4 is 5'; told is 'first such carrier'
+unfoldable pub wrongCarrier : Job → ℕ → Bool
+wrongCarrier job i = not (isOpen (job .hall) (job .startOf i)) || not (isOpen (job .hall) (job .goalOf i)) || ltb mostSlip (job .slipOf i)
 
 unfoldable pub firstWrong : Job → Option ℕ
-firstWrong job = firstOf (wrongEnds job) (range 0 (job .count))
+firstWrong job = firstOf (wrongCarrier job) (range 0 (job .count))
 
 -- answers 6 and 16, P1: 6 'for two carriers with one start', 16 'for one goal, each with the pair'; told is 'least i, then least
 -- j, i < j'

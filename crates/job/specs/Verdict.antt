@@ -9,7 +9,7 @@ use Rattle.job.specs.Job.{Job, Pair, wrongLimits, wrongCount, firstWrong
 use Rattle.job.specs.Told.{bare, named}
 use Rattle.job.specs.declared.Told.{Told}
 use Rattle.job.specs.declared.Verdict.{Verdict}
-use Rattle.job.specs.declared.Verdict.the-variants.{Accepted, WrongGrid, WrongBytes, WrongLimits, WrongCount, WrongEnds, SharedStart, SharedGoal}
+use Rattle.job.specs.declared.Verdict.the-variants.{Accepted, WrongGrid, WrongBytes, WrongLimits, WrongCount, WrongCarrier, SharedStart, SharedGoal}
 
 -- the number and what is told, for each case
 abbrev pub verdictTold : Verdict → Told
@@ -18,13 +18,13 @@ verdictTold WrongGrid = bare 1
 verdictTold WrongBytes = bare 2
 verdictTold WrongLimits = bare 3
 verdictTold WrongCount = bare 4
-verdictTold (WrongEnds i) = named 5 i 0
+verdictTold (WrongCarrier i) = named 5 i 0
 verdictTold (SharedStart i j) = named 6 i j
 verdictTold (SharedGoal i j) = named 16 i j
 
-unfoldable pub endsVerdict : Option ℕ → Verdict → Verdict
-endsVerdict none rest = rest
-endsVerdict (some i) rest = WrongEnds i
+unfoldable pub carrierVerdict : Option ℕ → Verdict → Verdict
+carrierVerdict none rest = rest
+carrierVerdict (some i) rest = WrongCarrier i
 
 -- two carriers that share, refused with their pair
 unfoldable pub sharedVerdict : (ℕ → ℕ → Verdict) → Option Pair → Verdict → Verdict
@@ -38,7 +38,7 @@ judgeWith wrongN job =
     (refuseIf (wrongBytes (job .hall)) WrongBytes
     (refuseIf (wrongLimits job || wrongN) WrongLimits
     (refuseIf (wrongCount job) WrongCount
-    (endsVerdict (firstWrong job)
+    (carrierVerdict (firstWrong job)
     (sharedVerdict (λ i j. SharedStart i j) (firstShared (job .startOf) (job .count))
     (sharedVerdict (λ i j. SharedGoal i j) (firstShared (job .goalOf) (job .count)) Accepted))))))
 
@@ -56,6 +56,6 @@ ifAccepted WrongGrid go stop = stop
 ifAccepted WrongBytes go stop = stop
 ifAccepted WrongLimits go stop = stop
 ifAccepted WrongCount go stop = stop
-ifAccepted (WrongEnds i) go stop = stop
+ifAccepted (WrongCarrier i) go stop = stop
 ifAccepted (SharedStart i j) go stop = stop
 ifAccepted (SharedGoal i j) go stop = stop

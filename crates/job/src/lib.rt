@@ -8,11 +8,11 @@ ghost use Rattle.hall.specs.Hall.{isOpen};
 ghost use Rattle.job.specs.Job.{wrongCapacity, firstWrong, share, firstShared};
 ghost use Rattle.job.specs.Team.{jobOf};
 ghost use Rattle.job.specs.Told.{refusal as refusalOf};
-ghost use Rattle.job.specs.Verdict.{verdictTold, endsVerdict, judgeWith};
-ghost use Rattle.job.specs.Found.{endIn, sharedBy, endFound, pairFound, pairsFrom};
+ghost use Rattle.job.specs.Verdict.{verdictTold, carrierVerdict, judgeWith};
+ghost use Rattle.job.specs.Found.{endIn, sharedBy, wrongFound, pairFound, pairsFrom};
 
-// 'the delay bound k (0 to 4), the horizon H (0 to 63) and the capacity N (1 to 1,024 records). There are 1 to 8 carriers.'
-const MOST_DELAY: usize = 4;
+// 'the horizon H (0 to 63) and the capacity N (1 to 1,024 records). There are 1 to 8 carriers.' P3: 'its own slip, 0 to 4'
+const MOST_SLIP: usize = 4;
 
 pub const MOST_HORIZON: usize = 63;
 
@@ -20,10 +20,11 @@ pub const MOST_RECORDS: usize = 1024;
 
 pub const MOST_CARRIERS: usize = 8;
 
-// The carriers by value: start and goal of each, and how many there are.
+// The carriers by value: start, goal and slip of each, and how many there are.
 pub struct Team {
     pub starts: [u8; 8],
     pub goals: [u8; 8],
+    pub slips: [u8; 8],
     pub count: usize,
 }
 
@@ -34,7 +35,7 @@ pub enum Verdict {
     WrongBytes,
     WrongLimits,
     WrongCount,
-    WrongEnds { carrier: usize },
+    WrongCarrier { carrier: usize },
     SharedStart { carrier: usize, other: usize },
     SharedGoal { carrier: usize, other: usize },
 }
@@ -87,7 +88,7 @@ pub fn verdict_told(verdict: Verdict) -> Told
         Verdict::WrongBytes => named(2, 0, 0),
         Verdict::WrongLimits => named(3, 0, 0),
         Verdict::WrongCount => named(4, 0, 0),
-        Verdict::WrongEnds { carrier } => named(5, carrier, 0),
+        Verdict::WrongCarrier { carrier } => named(5, carrier, 0),
         Verdict::SharedStart { carrier, other } => named(6, carrier, other),
         Verdict::SharedGoal { carrier, other } => named(16, carrier, other),
     }
@@ -115,11 +116,11 @@ pub fn wrong_capacity(n: usize) -> bool
     n == 0 || MOST_RECORDS < n
 }
 
-// Answer 3, of k and H: 'k above 4, H above 63'.
-fn wrong_limits(k: usize, h: usize) -> bool
-    ensures { λ r. ⌜ r ≡ (ltb 4 k || ltb 63 h) ⌝ }
+// Answer 3, of H: 'H above 63'.
+fn wrong_limits(h: usize) -> bool
+    ensures { λ r. ⌜ r ≡ ltb 63 h ⌝ }
 {
-    MOST_DELAY < k || MOST_HORIZON < h
+    MOST_HORIZON < h
 }
 
 // Answer 4: 'no carrier, or more than 8'.
@@ -129,39 +130,50 @@ fn wrong_count(count: usize) -> bool
     count == 0 || MOST_CARRIERS < count
 }
 
-// Answer 5, of one carrier: 'a start or goal is outside the grid or closed'.
-fn wrong_ends(hall: &[u8], width: usize, height: usize, start: usize, goal: usize) -> bool
+// Answer 5, of one carrier: 'a start or goal is outside the grid or closed', or 'a slip above 4'.
+fn wrong_carrier(
+    hall: &[u8],
+    width: usize,
+    height: usize,
+    start: usize,
+    goal: usize,
+    slip: usize,
+) -> bool
     requires { ⌜ (width ≤ 16) × (height ≤ 16) ⌝ }
-    ensures { λ r. ⌜ r ≡ (not (isOpen (record { width = width; height = height; bytes = now (hall .entry) }) start) || not (isOpen (record { width = width; height = height; bytes = now (hall .entry) }) goal)) ⌝ }
+    ensures { λ r. ⌜ r ≡ (not (isOpen (record { width = width; height = height; bytes = now (hall .entry) }) start) || not (isOpen (record { width = width; height = height; bytes = now (hall .entry) }) goal) || ltb 4 slip) ⌝ }
 {
+    if MOST_SLIP < slip {
+        return true;
+    }
     !hall::is_open(hall, width, height, start) || !hall::is_open(hall, width, height, goal)
 }
 
-// The first carrier with a wrong end.
-enum Ends {
+// The first carrier whose start, goal or slip is wrong.
+enum Carriers {
     Right,
     Wrong(usize),
 }
 
-fn first_wrong(hall: &[u8], width: usize, height: usize, team: Team) -> Ends
+fn first_wrong(hall: &[u8], width: usize, height: usize, team: Team) -> Carriers
     requires { ⌜ (width ≤ 16) × (height ≤ 16) × (team .count ≤ 8) ⌝ }
-    ensures { λ r. ⌜ endFound r ≡ firstWrong (jobOf width height (now (hall .entry)) team 0 0) ⌝ }
+    ensures { λ r. ⌜ wrongFound r ≡ firstWrong (jobOf width height (now (hall .entry)) team 0) ⌝ }
 {
     let count = team.count;
     let mut i = 0;
     while i < count {
-        if wrong_ends(
+        if wrong_carrier(
             hall,
             width,
             height,
             team.starts[i] as usize,
             team.goals[i] as usize,
+            team.slips[i] as usize,
         ) {
-            return Ends::Wrong(i);
+            return Carriers::Wrong(i);
         }
         i += 1;
     }
-    Ends::Right
+    Carriers::Right
 }
 
 // Two carriers that share a start, or a goal.
@@ -221,13 +233,13 @@ fn judge_shared(team: Team) -> Verdict
 }
 
 // Answers 5, 6 and 16.
-fn judge_ends(hall: &[u8], width: usize, height: usize, team: Team) -> Verdict
+fn judge_carriers(hall: &[u8], width: usize, height: usize, team: Team) -> Verdict
     requires { ⌜ (width ≤ 16) × (height ≤ 16) × (team .count ≤ 8) ⌝ }
-    ensures { λ r. ⌜ r ≡ endsVerdict (firstWrong (jobOf width height (now (hall .entry)) team 0 0)) (sharedBy (endIn (team .starts)) (endIn (team .goals)) (team .count)) ⌝ }
+    ensures { λ r. ⌜ r ≡ carrierVerdict (firstWrong (jobOf width height (now (hall .entry)) team 0)) (sharedBy (endIn (team .starts)) (endIn (team .goals)) (team .count)) ⌝ }
 {
-    let ends = first_wrong(hall, width, height, team);
-    if let Ends::Wrong(i) = ends {
-        return Verdict::WrongEnds { carrier: i };
+    let carriers = first_wrong(hall, width, height, team);
+    if let Carriers::Wrong(i) = carriers {
+        return Verdict::WrongCarrier { carrier: i };
     }
     judge_shared(team)
 }
@@ -239,11 +251,10 @@ pub fn judge_job(
     width: usize,
     height: usize,
     team: Team,
-    k: usize,
     h: usize,
     wrong_n: bool,
 ) -> Verdict
-    ensures { λ r. ⌜ r ≡ judgeWith «wrong_n» (jobOf width height (now (hall .entry)) team k h) ⌝ }
+    ensures { λ r. ⌜ r ≡ judgeWith «wrong_n» (jobOf width height (now (hall .entry)) team h) ⌝ }
 {
     if hall::wrong_grid(width, height) {
         return Verdict::WrongGrid;
@@ -251,7 +262,7 @@ pub fn judge_job(
     if hall::wrong_bytes(hall, width, height) {
         return Verdict::WrongBytes;
     }
-    if wrong_limits(k, h) {
+    if wrong_limits(h) {
         return Verdict::WrongLimits;
     }
     if wrong_n {
@@ -260,5 +271,5 @@ pub fn judge_job(
     if wrong_count(team.count) {
         return Verdict::WrongCount;
     }
-    judge_ends(hall, width, height, team)
+    judge_carriers(hall, width, height, team)
 }

@@ -1,4 +1,4 @@
--- The program reads at most 293 bytes, and cuts no book whose job is accepted: the contents have 16 bytes, and each body is read whole,
+-- The program reads at most 300 bytes, and cuts no book whose job is accepted: the contents have 16 bytes, and each body is read whole,
 -- so that its length is bounded by what an accepted job says. Assumes nothing.
 use native.Mathlib.Omega.{arith}
 use mathlib.Core.Path.{ap}
@@ -26,4 +26,4 @@ accepted-book-short book wrongN good accepted =
 
 pub accepted-book-uncut : AcceptedUncut
 unfolding AcceptedUncut AcceptedShort
-accepted-book-uncut book wrongN good accepted = ap programText (take-all 293 book (omega (arith, accepted-book-short book wrongN good accepted)))
+accepted-book-uncut book wrongN good accepted = ap programText (take-all 300 book (omega (arith, accepted-book-short book wrongN good accepted)))

@@ -10,7 +10,7 @@ use Rattle.job.specs.Job.{Job}
 use Rattle.job.specs.Team.{jobOf}
 use Rattle.job.specs.declared.Team.{Team}
 use Rattle.book.specs.Book.{bookNumber, bookVerdict, ifGood, bodyOf}
-use Rattle.book.specs.Parts.{widthIn, heightIn, hallIn, delayIn, horizonIn}
+use Rattle.book.specs.Parts.{widthIn, heightIn, hallIn, horizonIn}
 use Rattle.book.specs.declared.BookVerdict.{BookVerdict}
 use Rattle.book.specs.declared.BookVerdict.the-variants.{Good}
 use Rattle.book.proofs.Verdicts.{if-refused}
@@ -45,16 +45,15 @@ unfolding hallIn
 hall-rest body long = take-all (length body - 2) (drop 2 body) (simp length-drop (omega arith))
 
 module _ (book : List ℕ) where
-  job-same : (width height k h : ℕ) (bytes : List ℕ) (team : Team)
-      → width ≡ widthIn (bodyOf book 1) → height ≡ heightIn (bodyOf book 1) → bytes ≡ hallIn (bodyOf book 1) → team ≡ teamIn book → k ≡ delayIn (bodyOf book 3) → h ≡ horizonIn (bodyOf book 3)
-      → jobOf width height bytes team k h ≡ jobIn book
-  job-same width height k h bytes team e1 e2 e3 e4 e5 e6 =
-      ap (λ (x : ℕ). jobOf x height bytes team k h) e1
-      ∙ ap (λ (x : ℕ). jobOf (widthIn (bodyOf book 1)) x bytes team k h) e2
-      ∙ ap (λ (x : List ℕ). jobOf (widthIn (bodyOf book 1)) (heightIn (bodyOf book 1)) x team k h) e3
-      ∙ ap (λ (x : Team). jobOf (widthIn (bodyOf book 1)) (heightIn (bodyOf book 1)) (hallIn (bodyOf book 1)) x k h) e4
-      ∙ ap (λ (x : ℕ). jobOf (widthIn (bodyOf book 1)) (heightIn (bodyOf book 1)) (hallIn (bodyOf book 1)) (teamIn book) x h) e5
-      ∙ ap (λ (x : ℕ). jobOf (widthIn (bodyOf book 1)) (heightIn (bodyOf book 1)) (hallIn (bodyOf book 1)) (teamIn book) (delayIn (bodyOf book 3)) x) e6
+  job-same : (width height h : ℕ) (bytes : List ℕ) (team : Team)
+      → width ≡ widthIn (bodyOf book 1) → height ≡ heightIn (bodyOf book 1) → bytes ≡ hallIn (bodyOf book 1) → team ≡ teamIn book → h ≡ horizonIn (bodyOf book 3)
+      → jobOf width height bytes team h ≡ jobIn book
+  job-same width height h bytes team e1 e2 e3 e4 e5 =
+      ap (λ (x : ℕ). jobOf x height bytes team h) e1
+      ∙ ap (λ (x : ℕ). jobOf (widthIn (bodyOf book 1)) x bytes team h) e2
+      ∙ ap (λ (x : List ℕ). jobOf (widthIn (bodyOf book 1)) (heightIn (bodyOf book 1)) x team h) e3
+      ∙ ap (λ (x : Team). jobOf (widthIn (bodyOf book 1)) (heightIn (bodyOf book 1)) (hallIn (bodyOf book 1)) x h) e4
+      ∙ ap (λ (x : ℕ). jobOf (widthIn (bodyOf book 1)) (heightIn (bodyOf book 1)) (hallIn (bodyOf book 1)) (teamIn book) x) e5
 
   text-same : (n : ℕ) (before : Tables) (answer : Answer) (after : Tables) (team : Team) (h : ℕ)
       → answer ≡ planned (jobIn book) n before .answer → after ≡ planned (jobIn book) n before .tables → team ≡ teamIn book → h ≡ horizonIn (bodyOf book 3)
@@ -69,20 +68,19 @@ module _ (book : List ℕ) where
       ∙ told-held (answerTold (result .answer)) (teamIn book) (horizonIn (bodyOf book 3)) (result .tables .output) (plan-held book n before)
 
   pub job-printed : {r : ℕ} {after : Tables} {given : List ℕ} (n : ℕ) (before : Tables) (lent : List ℕ)
-      (hall carriers limits bytes : List ℕ) (team : Team) (width height k h : ℕ) (answer : Answer)
+      (hall carriers limits bytes : List ℕ) (team : Team) (width height h : ℕ) (answer : Answer)
       → hall ≡ bodyOf book 1 → carriers ≡ bodyOf book 2 → team ≡ bytesTeam carriers → limits ≡ bodyOf book 3
-      → width ≡ getD hall 0 0 → height ≡ getD hall 1 0 → k ≡ getD limits 0 0 → h ≡ getD limits 1 0 → bytes ≡ hallIn hall
-      → Planned (jobOf width height bytes team k h) n before answer after
+      → width ≡ getD hall 0 0 → height ≡ getD hall 1 0 → h ≡ getD limits 0 0 → bytes ≡ hallIn hall
+      → Planned (jobOf width height bytes team h) n before answer after
       → page given r ≡ put (page lent 0) (toldText (answerTold answer) (carriersText team h (after .output)))
       → Printed (resultText book (planned (jobIn book) n before)) (planned (jobIn book) n before .tables) lent r after given
-  unfolding widthIn heightIn delayIn horizonIn
-  job-printed {r} {after} {given} n before lent hall carriers limits bytes team width height k h answer b1 b2 isTeam b3 w hh kk ll bs made lines =
+  unfolding widthIn heightIn horizonIn
+  job-printed {r} {after} {given} n before lent hall carriers limits bytes team width height h answer b1 b2 isTeam b3 w hh ll bs made lines =
       let team-is : team ≡ teamIn book = isTeam ∙ ap bytesTeam b2 in
-      let horizon-is : h ≡ horizonIn (bodyOf book 3) = ll ∙ ap (λ (x : List ℕ). getD x 1 0) b3 in
-      let job-is : jobOf width height bytes team k h ≡ jobIn book =
-      job-same width height k h bytes team
-      (w ∙ ap (λ (x : List ℕ). getD x 0 0) b1) (hh ∙ ap (λ (x : List ℕ). getD x 1 0) b1) (bs ∙ ap hallIn b1) team-is
-      (kk ∙ ap (λ (x : List ℕ). getD x 0 0) b3) horizon-is in
+      let horizon-is : h ≡ horizonIn (bodyOf book 3) = ll ∙ ap (λ (x : List ℕ). getD x 0 0) b3 in
+      let job-is : jobOf width height bytes team h ≡ jobIn book =
+      job-same width height h bytes team
+      (w ∙ ap (λ (x : List ℕ). getD x 0 0) b1) (hh ∙ ap (λ (x : List ℕ). getD x 1 0) b1) (bs ∙ ap hallIn b1) team-is horizon-is in
       let answer-is : answer ≡ planned (jobIn book) n before .answer = made .told ∙ ap (λ (x : Job). planned x n before .answer) job-is in
       let tables-are : after ≡ planned (jobIn book) n before .tables = made .tables ∙ ap (λ (x : Job). planned x n before .tables) job-is in
       record {

@@ -30,7 +30,7 @@ blank n = page (replicate n 0) 0
 abbrev planLines : List ℕ
 planLines =
     toldText (counted 0 2 1)
-    (carriersText (record { starts = 0 ∷ []; goals = 2 ∷ []; count = 1 }) 2 (0 ∷ 1 ∷ 2 ∷ []))
+    (carriersText (record { starts = 0 ∷ []; goals = 2 ∷ []; slips = 0 ∷ []; count = 1 }) 2 (0 ∷ 1 ∷ 2 ∷ []))
 
 -- the last line ends with the cells 0 1 2, and the whole text has 54 bytes
 pub goal-cell-left-out : (given : List ℕ) → page given 52 ≡ put (blank 60) planLines → ⊥

@@ -7,7 +7,7 @@ use Rattle.job.specs.Job.{Job}
 use Rattle.job.specs.Team.{jobOf}
 use Rattle.job.specs.declared.Team.{Team}
 use Rattle.book.specs.Book.{bookNumber, bookVerdict, ifGood, bodyOf}
-use Rattle.book.specs.Parts.{widthIn, heightIn, hallIn, delayIn, horizonIn}
+use Rattle.book.specs.Parts.{widthIn, heightIn, hallIn, horizonIn}
 use Rattle.carriers.specs.Lent.{bytesTeam}
 use Rattle.tables.specs.Tables.{Tables}
 use Rattle.planner.specs.Answer.{Result, planned, answerTold}
@@ -19,7 +19,7 @@ teamIn book = bytesTeam (bodyOf book 2)
 
 abbrev pub jobIn : List ℕ → Job
 jobIn book =
-    jobOf (widthIn (bodyOf book 1)) (heightIn (bodyOf book 1)) (hallIn (bodyOf book 1)) (teamIn book) (delayIn (bodyOf book 3)) (horizonIn (bodyOf book 3))
+    jobOf (widthIn (bodyOf book 1)) (heightIn (bodyOf book 1)) (hallIn (bodyOf book 1)) (teamIn book) (horizonIn (bodyOf book 3))
 
 -- the lines of a planner's result for the job in the book
 unfoldable pub resultText : List ℕ → Result → List ℕ

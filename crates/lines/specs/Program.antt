@@ -1,4 +1,4 @@
--- Document 01, 'The book of a job': 'The program reads at most 293 bytes from standard input, uses N = 128 and prints.'
+-- Document 01, 'The book of a job': the program 'uses N = 128 and prints'. P3: 'the program reads at most 300 bytes'.
 use Prim.Native.Nat.{ℕ, _≤_}
 use mathlib.Core.Bool.{Bool}
 use mathlib.Core.List.{List}
@@ -26,11 +26,11 @@ pub record ProgramPrinted (book lent : List ℕ) (r : ℕ) (given : List ℕ) : 
   pub ends : r ≡ length (programText book)
   pub kept : drop r given ≡ drop r lent
 
--- [accepted-book-short] 'reads at most 293 bytes': a book whose job is accepted, with N or without, has at most 292. They are 16 of
--- contents, 2 and a hall of at most 256, 2 for each of at most 8 carriers, and 2 limits
+-- [accepted-book-short] 'reads at most 300 bytes': a book whose job is accepted, with N or without, has at most 299. They are 16 of
+-- contents, 2 and a hall of at most 256, 3 for each of at most 8 carriers, and H
 unfoldable pub AcceptedShort : Type 0
-AcceptedShort = (book : List ℕ) (wrongN : Bool) → bookVerdict book ≡ Good → judgeWith wrongN (jobIn book) ≡ Accepted → length book ≤ 292
+AcceptedShort = (book : List ℕ) (wrongN : Bool) → bookVerdict book ≡ Good → judgeWith wrongN (jobIn book) ≡ Accepted → length book ≤ 299
 
 -- [accepted-book-uncut] so the text of the bytes that are read is the text of the book
 unfoldable pub AcceptedUncut : Type 0
-AcceptedUncut = (book : List ℕ) (wrongN : Bool) → bookVerdict book ≡ Good → judgeWith wrongN (jobIn book) ≡ Accepted → programText (take 293 book) ≡ programText book
+AcceptedUncut = (book : List ℕ) (wrongN : Bool) → bookVerdict book ≡ Good → judgeWith wrongN (jobIn book) ≡ Accepted → programText (take 300 book) ≡ programText book

@@ -241,15 +241,13 @@ fn job_lines(
     let limits = book::body(book, book::LIMITS);
     let width = number_at(hall, 0);
     let height = number_at(hall, 1);
-    let k = number_at(limits, 0);
-    let h = number_at(limits, 1);
+    let h = number_at(limits, 0);
     let bytes = hall_in(hall);
     let answer = planner::plan(
         bytes,
         width,
         height,
         team,
-        k,
         h,
         n,
         columns,

@@ -1,4 +1,5 @@
 pub mod Every
+pub mod Greatest
 pub mod Loops
 pub mod Members
 pub mod Orders

@@ -1,7 +1,7 @@
--- The words on lists and counts in which document 01 is written down here: a range, the first that passes, a sum, and a check
--- before others.
+-- The words on lists and counts in which document 01 is written down here: a range, the first that passes, a sum, the
+-- greatest, and a check before others.
 -- Nothing here knows of halls or carriers.
-use Prim.Native.Nat.{ℕ, zero, suc, _+_}
+use Prim.Native.Nat.{ℕ, zero, suc, _+_, max}
 use mathlib.Core.Bool.{Bool, true, false}
 use mathlib.Core.List.{List, [], _∷_, _++_}
 use mathlib.Core.Logic.{_⊎_}
@@ -16,6 +16,11 @@ range a (suc n) = a ∷ range (suc a) n
 unfoldable pub sumTo : ℕ → (ℕ → ℕ) → ℕ
 sumTo zero f = 0
 sumTo (suc n) f = sumTo n f + f n
+
+-- the greatest of f 0, .., f (n - 1); 0 where there are none
+unfoldable pub greatest : ℕ → (ℕ → ℕ) → ℕ
+greatest zero f = 0
+greatest (suc n) f = max (greatest n f) (f n)
 
 module _ {A : Type 0} where
   -- x, where the test passes

@@ -165,7 +165,7 @@ module _ (task : Task) (bytes : List ℕ) (v : Verdict) (wrongN : Bool) (is : v 
         height-least = f .heightLeast;
         height-most = f .heightMost;
         bytes-long = f .bytesLength;
-        delay-most = f .delayMost;
+        slips-most = f .slipMost;
         horizon-most = f .horizonMost;
         count-least = f .countLeast;
         count-most = f .countMost;

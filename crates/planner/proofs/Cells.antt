@@ -6,9 +6,10 @@ use mathlib.Core.Path.{_≡_, refl, sym, ap, subst, _∙_}
 use mathlib.Core.List.{List}
 use lib.ListN.{length, getD, take, drop}
 use lib.Seq.{getD-take, getD-drop}
-use Rattle.job.specs.Job.{Job, planLength, slipOf, mostSlip}
+use Rattle.job.specs.Job.{Job, planLength}
 use Rattle.routes.specs.Route.{cellOf, routeIn}
 use Rattle.lists.proofs.Parts.{part-within}
+use Rattle.clashes.specs.Clash.{Travel}
 use Rattle.clashes.specs.Chosen.{chosen}
 use Rattle.clashes.specs.Find.{cellIn, firstClash}
 use Rattle.clashes.specs.declared.Clash.{Clash}
@@ -17,7 +18,7 @@ use Rattle.clashes.specs.First.{ChosenFact}
 use Rattle.clashes.proofs.Chosen.{chosen-fact}
 use Rattle.clashes.proofs.Same.{chosen-same}
 use Rattle.records.specs.Columns.{isBar}
-use Rattle.tree.specs.Plan.{cellsOf}
+use Rattle.tree.specs.Plan.{cellsOf, travels}
 use Rattle.tree.specs.Tree.{Node, clashOf}
 use Rattle.tables.specs.Post.{BarFits}
 use Rattle.tables.specs.State.{routesIn, stretchAt, nodeAt, Sound}
@@ -33,7 +34,7 @@ use Rattle.planner.specs.Steps.{jobIn, Placed, stayBars, crossBars, Bars
 pub placed : (task : Task) (bytes layers columns plans : List ℕ) (made x : ℕ) → Ready task bytes layers → Sound (jobOn task bytes) (task .capacity) columns plans made → x < made → Placed task plans x
 placed task bytes layers columns plans made x ready sound l =
     record {
-      delay-most = ready .delay-most;
+      slips-most = ready .slips-most;
       horizon-most = ready .horizon-most;
       count-most = ready .count-most;
       capacity-most = ready .capacity-most;
@@ -52,9 +53,11 @@ module _ (task : Task) (plans : List ℕ) (x : ℕ) (p : Placed task plans x) (s
 
 -- the numbers of the bars fit their columns
 module _ (task : Task) (bars : Bars) (i j : ℕ) (one-in : i < task .team .count) (two-in : j < task .team .count) where
-  pub stays-fit : (v t : ℕ) → bars ≡ stayBars i j v t (task .delay) → v < 256 → t ≤ 63 → task .delay ≤ 4 → BarsFit task bars
+  pub stays-fit : (v t : ℕ) → bars ≡ stayBars (λ c. getD (task .team .slips) c 0) i j v t → v < 256 → t ≤ 63 → ((c : ℕ) → c < task .team .count → getD (task .team .slips) c 0 ≤ 4) → BarsFit task bars
   unfolding BarFits isBar
-  stays-fit v t e cell step delay =
+  stays-fit v t e cell step slips =
+      let one : getD (task .team .slips) i 0 ≤ 4 = slips i one-in in
+      let two : getD (task .team .slips) j 0 ≤ 4 = slips j two-in in
       rw e (record { i-inside = one-in; j-inside = two-in; one-fits = ((omega arith, omega arith, omega arith), refl); two-fits = ((omega arith, omega arith, omega arith), refl) })
 
   pub crosses-fit : (u v t : ℕ) → bars ≡ crossBars i j u v t → u < 256 → v < 256 → t ≤ 63 → BarsFit task bars
@@ -78,8 +81,11 @@ module _ (job : Job) where
       ∙ getD-take (job .horizon + 1) (drop (i * (job .horizon + 1)) stretch) t 0 (omega arith)
       ∙ getD-drop (i * (job .horizon + 1)) stretch t 0)
 
-  clash-in : (stretch : List ℕ) → firstClash stretch (job .count) (job .delay) (job .horizon) ≡ chosen (cellsOf (routesIn job stretch)) (slipOf job) (mostSlip job) (job .horizon) (job .count)
-  clash-in stretch = chosen-same (cellIn stretch (job .horizon)) (cellsOf (routesIn job stretch)) (slipOf job) (mostSlip job) (job .horizon) (job .count) (cell-in stretch)
+  abbrev travelIn : List ℕ → Travel
+  travelIn stretch = record { at = cellIn stretch (job .horizon); slip = job .slipOf; horizon = job .horizon }
+
+  clash-in : (stretch : List ℕ) → chosen (travelIn stretch) (job .count) ≡ chosen (travels job (routesIn job stretch)) (job .count)
+  clash-in stretch = chosen-same (travelIn stretch) (cellsOf (routesIn job stretch)) (job .count) (cell-in stretch)
 
 -- what the code reads, of a node whose stretch has `size` bytes
 module _ (task : Task) (plans : List ℕ) (x size : ℕ) (is : size ≡ task .team .count * (task .horizon + 1)) where
@@ -90,12 +96,12 @@ module _ (task : Task) (plans : List ℕ) (x size : ℕ) (is : size ≡ task .te
   pub cell-read : (i t : ℕ) → i < task .team .count → t ≤ task .horizon → getD plans (x * size + i * (task .horizon + 1) + t) 0 ≡ cellsOf (routesIn (jobIn task) (stretchAt (jobIn task) plans x)) i t
   cell-read i t l k = rw is (cell-at (jobIn task) plans x i t l k)
 
-  pub clash-read : firstClash (take (x * size + size - x * size) (drop (x * size) plans)) (task .team .count) (task .delay) (task .horizon) ≡ firstClash (stretchAt (jobIn task) plans x) (task .team .count) (task .delay) (task .horizon)
-  clash-read = ap (λ (l : List ℕ). firstClash l (task .team .count) (task .delay) (task .horizon)) stretch-part
+  pub clash-read : firstClash (take (x * size + size - x * size) (drop (x * size) plans)) (task .team) (task .horizon) ≡ firstClash (stretchAt (jobIn task) plans x) (task .team) (task .horizon)
+  clash-read = ap (λ (l : List ℕ). firstClash l (task .team) (task .horizon)) stretch-part
 
 module _ (task : Task) (bytes : List ℕ) (capacity : ℕ) (columns plans : List ℕ) (x : ℕ) where
   -- the clash and the cells that the code has read are the node's
-  pub node-clash : (clash : Clash) → clash ≡ firstClash (stretchAt (jobIn task) plans x) (task .team .count) (task .delay) (task .horizon) → clash ≡ clashOf (jobOn task bytes) (nodeAt (jobOn task bytes) capacity columns plans x)
+  pub node-clash : (clash : Clash) → clash ≡ firstClash (stretchAt (jobIn task) plans x) (task .team) (task .horizon) → clash ≡ clashOf (jobOn task bytes) (nodeAt (jobOn task bytes) capacity columns plans x)
   unfolding clashOf nodeAt stretchAt
   node-clash clash e = e ∙ clash-in (jobOn task bytes) (stretchAt (jobOn task bytes) plans x)
 
@@ -106,11 +112,11 @@ module _ (task : Task) (bytes : List ℕ) (capacity : ℕ) (columns plans : List
 -- ---- what a chosen clash tells
 
 module _ (job : Job) (n : Node) where
-  told : (clash : Clash) → clash ≡ clashOf job n → ChosenFact (cellsOf (n .routes)) (slipOf job) (job .horizon) (job .count) clash
+  told : (clash : Clash) → clash ≡ clashOf job n → ChosenFact (travels job (n .routes)) (job .count) clash
   unfolding clashOf
   told clash e =
-      subst (ChosenFact (cellsOf (n .routes)) (slipOf job) (job .horizon) (job .count)) (sym e)
-      (chosen-fact (cellsOf (n .routes)) (slipOf job) (mostSlip job) (job .horizon) (job .count) (λ i l. omega arith))
+      subst (ChosenFact (travels job (n .routes)) (job .count)) (sym e)
+      (chosen-fact (travels job (n .routes)) (job .count))
 
   module _ (clash : Clash) (is : clash ≡ clashOf job n) where
     pub meeting-within : (i j t d : ℕ) → clash ≡ Meeting i j t d → (i < job .count) × (j < job .count) × (t ≤ job .horizon)

@@ -34,7 +34,7 @@ use Rattle.planner.proofs.Cells.{swap-exchanged}
 -- ---- the children of a node, by its clash
 
 module _ (job : Job) (n : Node) (clash : Clash) (is : clash ≡ clashOf job n) where
-  meeting-kids : (i j t d v : ℕ) → clash ≡ Meeting i j t d → v ≡ cellsOf (n .routes) i t → kids job n ≡ child job n (oneOf (stayBars i j v t (job .delay))) ++ child job n (twoOf (stayBars i j v t (job .delay)))
+  meeting-kids : (i j t d v : ℕ) → clash ≡ Meeting i j t d → v ≡ cellsOf (n .routes) i t → kids job n ≡ child job n (oneOf (stayBars (job .slipOf) i j v t)) ++ child job n (twoOf (stayBars (job .slipOf) i j v t))
   unfolding kids kidsFor barOne barTwo
   meeting-kids i j t d v e h = let c : clashOf job n ≡ Meeting i j t d = sym is ∙ e in rw (c, h) refl
 
@@ -85,9 +85,9 @@ module _ (job : Job) (capacity : ℕ) where
       split-clear e = (refl, clash-clear job node clash is e, refl, refl)
 
       module _ (bars : Bars) (columns' plans' : List ℕ) (r : Turn) where
-        pub split-meeting : (i j t d v : ℕ) → clash ≡ Meeting i j t d → v ≡ cellsOf (nodeAt job capacity columns plans x .routes) i t → bars ≡ stayBars i j v t (job .delay) → PartFact job capacity x (oneOf bars) (twoOf bars) made columns plans columns' plans' r → SplitFact job capacity x made columns plans columns' plans' r
+        pub split-meeting : (i j t d v : ℕ) → clash ≡ Meeting i j t d → v ≡ cellsOf (nodeAt job capacity columns plans x .routes) i t → bars ≡ stayBars (job .slipOf) i j v t → PartFact job capacity x (oneOf bars) (twoOf bars) made columns plans columns' plans' r → SplitFact job capacity x made columns plans columns' plans' r
         split-meeting i j t d v e h b f =
-            two-parted (oneOf (stayBars i j v t (job .delay))) (twoOf (stayBars i j v t (job .delay))) columns' plans' r
+            two-parted (oneOf (stayBars (job .slipOf) i j v t)) (twoOf (stayBars (job .slipOf) i j v t)) columns' plans' r
             (meeting-parts job node clash is i j t d e) (meeting-kids job node clash is i j t d v e h) (rw b at f)
 
         pub split-swap : (i j t u v : ℕ) → clash ≡ Swap i j t → u ≡ cellsOf (nodeAt job capacity columns plans x .routes) i t → v ≡ cellsOf (nodeAt job capacity columns plans x .routes) j t → bars ≡ crossBars i j u v t → PartFact job capacity x (oneOf bars) (twoOf bars) made columns plans columns' plans' r → SplitFact job capacity x made columns plans columns' plans' r

@@ -66,7 +66,7 @@ module _ (task : Task) (bytes : List ℕ) where
   unfolding EndFact EndPlaced
   ended-placed o layers columns plans (Spent made) ready room f = tt
   ended-placed o layers columns plans (Clear x made) ready room f =
-      record { delay-most = ready .delay-most; horizon-most = ready .horizon-most; count-most = ready .count-most; capacity-most = ready .capacity-most; inside = f .0; long = room }
+      record { slips-most = ready .slips-most; horizon-most = ready .horizon-most; count-most = ready .count-most; capacity-most = ready .capacity-most; inside = f .0; long = room }
   ended-placed o layers columns plans EndFull ready room f = tt
 
   module _ (c p l c' p' l' c'' p'' l'' : List ℕ) (kept : Kept task bytes c p l c' p' l') (cleared : Cleared task c' p' l' c'' p'' l'') (output : List ℕ) where

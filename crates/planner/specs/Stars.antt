@@ -1,8 +1,8 @@
 -- Document 01, 'Jobs worked by hand': the eleven marked ★ for proof, one table. The law `stars-hold` is the claim.
--- 'Cells all open; k is 0 and N is 128 where not given'. Document 02, P2: 'The 3 by 3 job with k 1 becomes 3 3 3 4 5 and 1 4 7 7 7, sum 6,
--- 3 records.'
+-- 'Cells all open; k is 0 and N is 128 where not given'. Since P3 k is every carrier's slip. Document 02, P2: 'The 3 by 3 job with k 1
+-- becomes 3 3 3 4 5 and 1 4 7 7 7, sum 6, 3 records.'
 use Prim.Native.Nat.{ℕ, _*_}
-use mathlib.Core.List.{List, [], _∷_}
+use mathlib.Core.List.{List, [], _∷_, map}
 use lib.ListN.{length, getD, replicate}
 use Rattle.lists.specs.Lists.{each}
 use Rattle.hall.specs.Hall.{openByte}
@@ -18,7 +18,7 @@ pub record Star : Type 0 where
   pub height : ℕ
   pub starts : List ℕ
   pub goals : List ℕ
-  pub delay : ℕ
+  pub slips : List ℕ
   pub horizon : ℕ
   pub capacity : ℕ
   -- what document 01 says: number, sum, records; and the routes, none where there is no plan
@@ -32,7 +32,7 @@ starJob s =
       count = length (s .starts);
       startOf = λ i. getD (s .starts) i 0;
       goalOf = λ i. getD (s .goals) i 0;
-      delay = s .delay;
+      slipOf = λ i. getD (s .slips) i 0;
       horizon = s .horizon;
     }
 
@@ -64,10 +64,10 @@ seen r = record { told = answerTold (r .answer); output = r .tables .output }
 abbrev pub given : Star → Seen
 given s = seen (planned (starJob s) (s .capacity) (starTables s))
 
--- width, height, starts, goals, k, H, N; number, sum, records; routes
+-- width, height, starts, goals, every slip, H, N; number, sum, records; routes
 star : ℕ → ℕ → List ℕ → List ℕ → ℕ → ℕ → ℕ → Told → Routes → Star
-star w h ss gs k horizon n t rs =
-    record { width = w; height = h; starts = ss; goals = gs; delay = k; horizon = horizon; capacity = n; told = t; routes = rs }
+star w h ss gs slip horizon n t rs =
+    record { width = w; height = h; starts = ss; goals = gs; slips = map (λ _. slip) ss; horizon = horizon; capacity = n; told = t; routes = rs }
 
 unfoldable pub stars : List Star
 unfolding star
@@ -89,3 +89,18 @@ stars =
 unfoldable pub lastJob : Star
 unfolding star
 lastJob = star 4 2 (6 ∷ 0 ∷ []) (2 ∷ 3 ∷ []) 0 3 128 (counted 0 6 2) ((6 ∷ 6 ∷ 6 ∷ 2 ∷ []) ∷ (0 ∷ 1 ∷ 2 ∷ 3 ∷ []) ∷ [])
+
+-- Two carriers of unequal slips, worked for P3: width 3, height 1, 0→2 with slip 0 and 2→0 with slip 1, H 6: nobody can pass, 38 records.
+unfoldable pub ownSlips : Star
+ownSlips =
+    record {
+      width = 3;
+      height = 1;
+      starts = 0 ∷ 2 ∷ [];
+      goals = 2 ∷ 0 ∷ [];
+      slips = 0 ∷ 1 ∷ [];
+      horizon = 6;
+      capacity = 128;
+      told = counted 8 0 38;
+      routes = [];
+    }

@@ -5,7 +5,7 @@ use mathlib.Core.Path.{_≡_}
 use mathlib.Core.Bool.{true, false}
 use mathlib.Core.List.{List, [], _++_}
 use mathlib.Core.Option.{Option, none, some}
-use lib.ListN.{length, set}
+use lib.ListN.{length, getD, set}
 use Rattle.lent.specs.Lent.{zeroed}
 use Rattle.job.specs.Job.{Job, planLength}
 use Rattle.routes.specs.Bars.{Barred}
@@ -39,7 +39,7 @@ pub record Limits (task : Task) : Type 0 where
 
 -- node x has its stretch in the plans table, and all numbers are small
 pub record Placed (task : Task) (plans : List ℕ) (x : ℕ) : Type 0 where
-  pub delay-most : task .delay ≤ 4
+  pub slips-most : (i : ℕ) → i < task .team .count → getD (task .team .slips) i 0 ≤ 4
   pub horizon-most : task .horizon ≤ 63
   pub count-most : task .team .count ≤ 8
   pub capacity-most : task .capacity ≤ 1024
@@ -80,8 +80,8 @@ oneOf bars = record { carrier = bars .i; bar = bars .one }
 abbrev pub twoOf : Bars → Barred
 twoOf bars = record { carrier = bars .j; bar = bars .two }
 
-abbrev pub stayBars : ℕ → ℕ → ℕ → ℕ → ℕ → Bars
-stayBars i j v t k = record { i = i; one = Stay v t (t + k); j = j; two = Stay v t (t + k) }
+abbrev pub stayBars : (ℕ → ℕ) → ℕ → ℕ → ℕ → ℕ → Bars
+stayBars slip i j v e = record { i = i; one = Stay v e (e + slip j); j = j; two = Stay v e (e + slip i) }
 
 abbrev pub crossBars : ℕ → ℕ → ℕ → ℕ → ℕ → Bars
 crossBars i j u v t = record { i = i; one = Cross u v t; j = j; two = Cross v u t }

@@ -8,7 +8,7 @@ use routes::Bar;
 use tables::Least;
 ghost use Prim.Native.Nat.{_+_, _*_, _≤_, _<_};
 ghost use mathlib.Core.Path.{_≡_};
-ghost use lib.ListN.{length};
+ghost use lib.ListN.{length, getD};
 ghost use Rattle.job.specs.Job.{planLength};
 ghost use Rattle.job.specs.Team.{jobOf};
 ghost use Rattle.clashes.specs.Find.{firstClash};
@@ -129,22 +129,22 @@ fn cell_of(task: Task, node: usize, carrier: usize, step: usize, plans: &[u8]) -
     plans[node * children::stretch_of(task) + carrier * (task.horizon + 1) + step] as usize
 }
 
-// Rule 6: 'For a meeting on cell v, child one bars i and child two bars j, each from v over steps t to t + k.'
-fn stay_bars(i: usize, j: usize, v: usize, t: usize, k: usize) -> Bars
-    requires { ⌜ (t ≤ 63) × (k ≤ 4) ⌝ }
-    ensures { λ r. ⌜ r ≡ stayBars i j v t k ⌝ }
+// Rule 6, for a meeting on cell v: 'i is barred from e to e + slip of j, j from e to e + slip of i, the earlier carrier in child one.'
+fn stay_bars(slips: [u8; 8], i: usize, j: usize, v: usize, e: usize) -> Bars
+    requires { ⌜ (i < 8) × (j < 8) × (e ≤ 63) × (getD slips i 0 ≤ 4) × (getD slips j 0 ≤ 4) ⌝ }
+    ensures { λ r. ⌜ r ≡ stayBars (λ c. getD slips c 0) i j v e ⌝ }
 {
-    let bar = Bar::Stay {
+    let one = Bar::Stay {
         cell: v,
-        first: t,
-        last: t + k,
+        first: e,
+        last: e + slips[j] as usize,
     };
-    Bars {
-        i,
-        one: bar,
-        j,
-        two: bar,
-    }
+    let two = Bar::Stay {
+        cell: v,
+        first: e,
+        last: e + slips[i] as usize,
+    };
+    Bars { i, one, j, two }
 }
 
 // 'For a swap each is barred from its own crossing at t.'
@@ -188,7 +188,9 @@ fn split(
             distance: _,
         } => {
             let v = cell_of(task, node, first, step, plans);
-            let bars = stay_bars(first, second, v, step, task.delay);
+            let team = task.team;
+            let slips = team.slips;
+            let bars = stay_bars(slips, first, second, v, step);
             part(hall, task, node, bars, made, columns, plans, layers)
         }
         Clash::Swap {
@@ -207,12 +209,12 @@ fn split(
 // Rule 5: the chosen meeting or swap of a node.
 fn clash_at(task: Task, node: usize, plans: &[u8]) -> Clash
     requires { ⌜ Placed task (now plans) node ⌝ }
-    ensures { λ r. ⌜ r ≡ firstClash (stretchAt (jobIn task) (now (plans .entry)) node) (task .team .count) (task .delay) (task .horizon) ⌝ }
+    ensures { λ r. ⌜ r ≡ firstClash (stretchAt (jobIn task) (now (plans .entry)) node) (task .team) (task .horizon) ⌝ }
 {
     let size = children::stretch_of(task);
     let from = node * size;
     let to = from + size;
-    clashes::first_clash(&plans[from..to], task.team.count, task.delay, task.horizon)
+    clashes::first_clash(&plans[from..to], task.team, task.horizon)
 }
 
 // Rule 4: 'Take the open node of least sum, then of least number. If no open node is left, answer 8. If its routes have no
@@ -372,7 +374,6 @@ pub fn plan(
     width: usize,
     height: usize,
     team: Team,
-    k: usize,
     h: usize,
     n: usize,
     columns: &mut [u16],
@@ -380,14 +381,13 @@ pub fn plan(
     layers: &mut [u8],
     output: &mut [u8],
 ) -> Answer
-    ensures { λ r. ⌜ Planned (jobOf width height (now (hall .entry)) team k h) n (record { columns = now (columns .entry); plans = now (plans .entry); layers = now (layers .entry); output = now (output .entry) }) r (record { columns = now (columns .exit); plans = now (plans .exit); layers = now (layers .exit); output = now (output .exit) }) ⌝ }
+    ensures { λ r. ⌜ Planned (jobOf width height (now (hall .entry)) team h) n (record { columns = now (columns .entry); plans = now (plans .entry); layers = now (layers .entry); output = now (output .entry) }) r (record { columns = now (columns .exit); plans = now (plans .exit); layers = now (layers .exit); output = now (output .exit) }) ⌝ }
 {
-    let verdict = job::judge_job(hall, width, height, team, k, h, job::wrong_capacity(n));
+    let verdict = job::judge_job(hall, width, height, team, h, job::wrong_capacity(n));
     if let Verdict::Accepted = verdict {
         let task = Task {
             width,
             height,
-            delay: k,
             horizon: h,
             capacity: n,
             team,

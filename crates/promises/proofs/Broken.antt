@@ -10,15 +10,15 @@ use mathlib.Core.Logic.{_⊎_, inl, inr}
 use native.Mathlib.Decide.{decLe}
 use mathlib.Core.Option.{Option, none, some}
 use lib.ListN.{length, getD}
-use Rattle.lists.specs.Lists.{range, sumTo, only, keep, anyOf, firstOf, each, Every, refuseIf}
+use Rattle.lists.specs.Lists.{range, greatest, sumTo, only, keep, anyOf, firstOf, each, Every, refuseIf}
 use Rattle.lists.proofs.Every.{every-member}
 use Rattle.lent.proofs.Keeping.{zeroed-zero}
 use Rattle.hall.specs.Hall.{size, wrongSide, wrongGrid, wrongByte, wrongBytes, isOpen}
 use Rattle.hall.specs.Moves.{onGrid, cellAt, landing, reachFrom, reach, mayFollow}
-use Rattle.job.specs.Job.{Job, planLength, planCell, wrongLimits, wrongCapacity, wrongCount, wrongEnds, firstWrong, share, pairs, firstShared}
+use Rattle.job.specs.Job.{Job, planLength, planCell, wrongLimits, wrongCapacity, wrongCount, wrongCarrier, firstWrong, share, pairs, firstShared}
 use Rattle.job.specs.Due.{RightJob, RightCapacity, NoneShare, Due}
 use Rattle.job.specs.Told.{counted, bare, tooShort}
-use Rattle.job.specs.Verdict.{endsVerdict, sharedVerdict, judgeWith, judge, ifAccepted}
+use Rattle.job.specs.Verdict.{carrierVerdict, sharedVerdict, judgeWith, judge, ifAccepted}
 use Rattle.job.specs.declared.Fault.{Fault}
 use Rattle.job.specs.declared.Told.{Told}
 use Rattle.job.specs.declared.Verdict.the-variants.{Accepted}
@@ -29,7 +29,7 @@ use Rattle.routes.specs.Check.{wrongMove, wrongArrival, wrongAt, places, firstW
 use Rattle.clashes.specs.Check.{planClash, compared, meetingVerdict, meetingTold}
 use Rattle.clashes.specs.Chosen.{written, meets, swaps, happens, overPairs, atStep, candidates, orClear, chosen}
 use Rattle.checks.specs.Demand.{Passes, Safe}
-use Rattle.checks.proofs.Broken.{crossing, followed, oneCell, standing, always-passes-meetings}
+use Rattle.checks.proofs.Broken.{crossingOf, crossing, followed, oneCell, standing, always-passes-meetings}
 use Rattle.checks.proofs.Demand.{plan-check-exact, zero-is-lawful, zero-is-safe}
 use Rattle.tree.specs.Tree.{Node, routeUnder, withRoute, freeRoutes, rootOf, root, clashOf, barOne, barTwo, childWith, child, kidsFor, kids}
 use Rattle.tree.proofs.Promises.{need-one}
@@ -62,7 +62,7 @@ by f job n before told after = (told ≡ f job n before .told) × (after ≡ f j
 
 -- the job at place n of the table
 abbrev starAt : ℕ → Star
-starAt n = getD stars n (record { width = 0; height = 0; starts = []; goals = []; delay = 0; horizon = 0; capacity = 0; told = bare 0; routes = [] })
+starAt n = getD stars n (record { width = 0; height = 0; starts = []; goals = []; slips = []; horizon = 0; capacity = 0; told = bare 0; routes = [] })
 
 abbrev nothing : Seen
 nothing = record { told = bare 0; output = [] }
@@ -75,20 +75,20 @@ runs-by s accepted long =
     let (right, capacity) = accepted-exactly (starJob s) (s .capacity) .0 accepted in
     record { right = right; capacity = capacity; long = long-exact (starJob s) (s .capacity) (starTables s) .0 long }
 
--- 3 by 3, 3→5 and 1→7, k 0, H 4: with N 3 a plan of sum 5 with 3 records, with N 2 answer 9; one cell; and document 01's last job
+-- 3 by 3, 3→5 and 1→7, slips 0, H 4: with N 3 a plan of sum 5 with 3 records, with N 2 answer 9; one cell; and document 01's last job
 runs-first : RunsAt (starAt 0)
-unfolding range anyOf firstOf each wrongSide wrongGrid wrongByte wrongBytes isOpen wrongLimits wrongCapacity wrongCount wrongEnds firstWrong share pairs firstShared refuseIf endsVerdict sharedVerdict judgeWith firstShort stars
+unfolding range anyOf firstOf each wrongSide wrongGrid wrongByte wrongBytes isOpen wrongLimits wrongCapacity wrongCount wrongCarrier firstWrong share pairs firstShared refuseIf carrierVerdict sharedVerdict judgeWith firstShort stars
 runs-first = runs-by (starAt 0) refl refl
 
 runs-second : RunsAt (starAt 1)
-unfolding range anyOf firstOf each wrongSide wrongGrid wrongByte wrongBytes isOpen wrongLimits wrongCapacity wrongCount wrongEnds firstWrong share pairs firstShared refuseIf endsVerdict sharedVerdict judgeWith firstShort stars
+unfolding range anyOf firstOf each wrongSide wrongGrid wrongByte wrongBytes isOpen wrongLimits wrongCapacity wrongCount wrongCarrier firstWrong share pairs firstShared refuseIf carrierVerdict sharedVerdict judgeWith firstShort stars
 runs-second = runs-by (starAt 1) refl refl
 
 runs-seventh : RunsAt (starAt 6)
-unfolding range anyOf firstOf each wrongSide wrongGrid wrongByte wrongBytes isOpen wrongLimits wrongCapacity wrongCount wrongEnds firstWrong share pairs firstShared refuseIf endsVerdict sharedVerdict judgeWith firstShort stars
+unfolding range anyOf firstOf each wrongSide wrongGrid wrongByte wrongBytes isOpen wrongLimits wrongCapacity wrongCount wrongCarrier firstWrong share pairs firstShared refuseIf carrierVerdict sharedVerdict judgeWith firstShort stars
 runs-seventh = runs-by (starAt 6) refl refl
 
--- two carriers change places on four cells: 2 by 2, 0→1 and 1→0, k 0, H 3
+-- two carriers change places on four cells: 2 by 2, 0→1 and 1→0, slips 0, H 3
 abbrev exchange : Star
 exchange =
     record {
@@ -96,7 +96,7 @@ exchange =
       height = 2;
       starts = 0 ∷ 1 ∷ [];
       goals = 1 ∷ 0 ∷ [];
-      delay = 0;
+      slips = 0 ∷ 0 ∷ [];
       horizon = 3;
       capacity = 128;
       told = counted 0 4 15;
@@ -104,7 +104,7 @@ exchange =
     }
 
 runs-exchange : RunsAt exchange
-unfolding range anyOf firstOf each wrongSide wrongGrid wrongByte wrongBytes isOpen wrongLimits wrongCapacity wrongCount wrongEnds firstWrong share pairs firstShared refuseIf endsVerdict sharedVerdict judgeWith firstShort
+unfolding range anyOf firstOf each wrongSide wrongGrid wrongByte wrongBytes isOpen wrongLimits wrongCapacity wrongCount wrongCarrier firstWrong share pairs firstShared refuseIf carrierVerdict sharedVerdict judgeWith firstShort
 runs-exchange = runs-by exchange refl refl
 
 -- ---- what our planner tells there
@@ -225,7 +225,7 @@ abbrev handedBack : Node → List ℕ
 handedBack kid = planWritten (starJob exchange) (kid .routes) (starTables exchange .output)
 
 children-meet : Every (λ kid. meetingTold (meetingVerdict (starJob exchange) (handedBack kid)) .number ≡ 22) children
-unfolding range sumTo only keep anyOf firstOf each Every wrongSide wrongGrid wrongByte wrongBytes isOpen onGrid cellAt landing reachFrom reach wrongLimits wrongCount wrongEnds firstWrong share pairs firstShared refuseIf endsVerdict sharedVerdict judgeWith judge ifAccepted stepCost cost barsFor barsCell barsWay mayStand mayTurn preferred outdone moves moved better bestOf inFront bestWay bestRoute written meets swaps happens overPairs atStep candidates orClear chosen planClash compared meetingVerdict planWritten routeUnder withRoute freeRoutes rootOf root clashOf barOne barTwo childWith child kidsFor kids
+unfolding range greatest sumTo only keep anyOf firstOf each Every wrongSide wrongGrid wrongByte wrongBytes isOpen onGrid cellAt landing reachFrom reach wrongLimits wrongCount wrongCarrier firstWrong share pairs firstShared refuseIf carrierVerdict sharedVerdict judgeWith judge ifAccepted stepCost cost barsFor barsCell barsWay mayStand mayTurn preferred outdone moves moved better bestOf inFront bestWay bestRoute written meets swaps happens overPairs atStep candidates orClear chosen planClash compared meetingVerdict planWritten routeUnder withRoute freeRoutes rootOf root clashOf barOne barTwo childWith child kidsFor kids
 children-meet = (refl, (refl, tt))
 
 -- so to hand back the routes of one, with whatever records, contradicts 'apart'
@@ -247,14 +247,14 @@ only-children-grown f keeps kid member zero back =
 abbrev byCheck : (Job → List ℕ → Fault) → Check
 byCheck f job plan fault = fault ≡ f job plan
 
--- width 3, height 1, 0→1 and 1→2, k 1, H 1: both carriers go on at once, and the first is on cell 1 a step after the second
+-- width 3, height 1, 0→1 and 1→2, slips 1, H 1: both carriers go on at once, and the first is on cell 1 a step after the second
 followed-passes : routeTold (routeVerdict crossing followed) .number ≡ 0
-unfolding range only keep anyOf firstOf each wrongSide wrongGrid wrongByte wrongBytes isOpen onGrid cellAt landing reachFrom reach mayFollow wrongLimits wrongCount wrongEnds firstWrong share pairs firstShared refuseIf endsVerdict sharedVerdict judgeWith judge ifAccepted wrongMove wrongArrival wrongAt places firstWrongPlace placeVerdict planVerdict routeVerdict
+unfolding range only keep anyOf firstOf each wrongSide wrongGrid wrongByte wrongBytes isOpen onGrid cellAt landing reachFrom reach mayFollow wrongLimits wrongCount wrongCarrier firstWrong share pairs firstShared refuseIf carrierVerdict sharedVerdict judgeWith judge ifAccepted wrongMove wrongArrival wrongAt places firstWrongPlace placeVerdict planVerdict routeVerdict
 followed-passes = refl
 
 -- one cell, and the carrier on it
 standing-passes : Passes oneCell standing
-unfolding range anyOf firstOf each wrongSide wrongGrid wrongByte wrongBytes isOpen wrongLimits wrongCount wrongEnds firstWrong share pairs firstShared refuseIf endsVerdict sharedVerdict judgeWith judge ifAccepted wrongArrival wrongAt places firstWrongPlace placeVerdict planVerdict routeVerdict written meets swaps happens overPairs atStep candidates orClear chosen planClash compared meetingVerdict
+unfolding range greatest anyOf firstOf each wrongSide wrongGrid wrongByte wrongBytes isOpen wrongLimits wrongCount wrongCarrier firstWrong share pairs firstShared refuseIf carrierVerdict sharedVerdict judgeWith judge ifAccepted wrongArrival wrongAt places firstWrongPlace placeVerdict planVerdict routeVerdict written meets swaps happens overPairs atStep candidates orClear chosen planClash compared meetingVerdict
 standing-passes = record { routes = refl; meetings = refl }
 
 module _ (r m : Job → List ℕ → Fault) (keeps : CheckIsExact (byCheck r) (byCheck m)) where
@@ -344,10 +344,10 @@ unfolding stars
 third-given = ap (λ (l : List Seen). getD l 2 nothing) stars-hold
 
 runs-third : RunsAt (starAt 2)
-unfolding range anyOf firstOf each wrongSide wrongGrid wrongByte wrongBytes isOpen wrongLimits wrongCapacity wrongCount wrongEnds firstWrong share pairs firstShared refuseIf endsVerdict sharedVerdict judgeWith firstShort stars
+unfolding range anyOf firstOf each wrongSide wrongGrid wrongByte wrongBytes isOpen wrongLimits wrongCapacity wrongCount wrongCarrier firstWrong share pairs firstShared refuseIf carrierVerdict sharedVerdict judgeWith firstShort stars
 runs-third = runs-by (starAt 2) refl refl
 
--- the 3 by 3 job with k 1: carrier 0 goes up from its start, as it did before P2
+-- the 3 by 3 job with slips 1: carrier 0 goes up from its start, as it did before P2
 pub wanders : (f : Function) → NineByNeed (by f) → getD (at f (starAt 2) .after .output) 1 9 ≡ 0 → ⊥
 unfolding NineByNeed stars each
 wanders f keeps up =
@@ -367,3 +367,47 @@ pub layers-not-cleared : (g : Planner) → TablesLeft g → (job : Job) (n : ℕ
 unfolding TablesLeft
 layers-not-cleared g keeps job n before told after p runs x h left =
     left (ap (λ (l : List ℕ). getD l x 0) (keeps job n before told after p runs .layers) ∙ zeroed-zero (layersLength job) x (before .layers) h)
+
+-- ---- P3: one slip read for all carriers. 0→1 and 1→2 in a row of three cells with H 1: both go on at once, and carrier 0 is on cell 1 a
+-- ---- step after carrier 1. So carrier 1's slip counts, and it alone
+
+-- with slips 0 and 1 the two meet
+followed-meets : (routeTold (routeVerdict (crossingOf 0 1) followed) .number ≡ 0) × (meetingTold (meetingVerdict (crossingOf 0 1) followed) .number ≡ 22)
+unfolding range only keep anyOf firstOf each wrongSide wrongGrid wrongByte wrongBytes isOpen onGrid cellAt landing reachFrom reach mayFollow wrongLimits wrongCount wrongCarrier firstWrong share pairs firstShared refuseIf carrierVerdict sharedVerdict judgeWith judge ifAccepted wrongMove wrongArrival wrongAt places firstWrongPlace placeVerdict planVerdict routeVerdict greatest written meets swaps happens overPairs atStep candidates orClear chosen planClash compared meetingVerdict
+followed-meets = (refl, refl)
+
+-- with slips 1 and 0 they do not
+followed-clear : Passes (crossingOf 1 0) followed
+unfolding range only keep anyOf firstOf each wrongSide wrongGrid wrongByte wrongBytes isOpen onGrid cellAt landing reachFrom reach mayFollow wrongLimits wrongCount wrongCarrier firstWrong share pairs firstShared refuseIf carrierVerdict sharedVerdict judgeWith judge ifAccepted wrongMove wrongArrival wrongAt places firstWrongPlace placeVerdict planVerdict routeVerdict greatest written meets swaps happens overPairs atStep candidates orClear chosen planClash compared meetingVerdict
+followed-clear = record { routes = refl; meetings = refl }
+
+module _ (r m : Job → List ℕ → Fault) (keeps : CheckIsExact (byCheck r) (byCheck m)) where
+  -- carrier 0's slip for both, or the slips exchanged: the plan passes
+  pub first-slip-for-all : (r (crossingOf 0 1) followed .number ≡ 0) × (m (crossingOf 0 1) followed .number ≡ 0) → ⊥
+  unfolding CheckIsExact
+  first-slip-for-all passes =
+      let (accepted, lawful) = zero-is-lawful (crossingOf 0 1) followed (followed-meets .0) in
+      let safe : Safe (crossingOf 0 1) followed =
+      keeps (crossingOf 0 1) followed (r (crossingOf 0 1) followed) (m (crossingOf 0 1) followed) refl refl (checks-accept-exactly (crossingOf 0 1) .0 accepted) lawful .0 passes in
+      let z : _≡_ {A = ℕ} 22 0 = sym (followed-meets .1) ∙ plan-check-exact (crossingOf 0 1) followed accepted lawful .1 safe .meetings in
+      omega (arith, z)
+
+  -- the greatest slip for both, or the slips exchanged: it does not
+  pub greatest-slip-for-all : ((r (crossingOf 1 0) followed .number ≡ 0) × (m (crossingOf 1 0) followed .number ≡ 0) → ⊥) → ⊥
+  unfolding CheckIsExact
+  greatest-slip-for-all fails =
+      let (accepted, lawful, safe) = zero-is-safe (crossingOf 1 0) followed followed-clear in
+      fails (keeps (crossingOf 1 0) followed (r (crossingOf 1 0) followed) (m (crossingOf 1 0) followed) refl refl (checks-accept-exactly (crossingOf 1 0) .0 accepted) lawful .1 safe)
+
+-- and a planner that hands that plan back where the two meet
+pub first-slip-planned : (f : Function) → ZeroIsLeast (by f) → (n : ℕ) (before : Tables) → f (crossingOf 0 1) n before .told .number ≡ 0 → f (crossingOf 0 1) n before .after .output ≡ followed → ⊥
+unfolding ZeroIsLeast
+first-slip-planned f keeps n before zero back =
+    let job = crossingOf 0 1 in
+    let (rs, given) = keeps job n before (f job n before .told) (f job n before .after) (refl, refl) zero in
+    let (accepted, lawful) = zero-is-lawful job followed (followed-meets .0) in
+    let passes : Passes job (planWritten job rs (before .output)) = written-passes job rs (given .plan) (before .output) accepted in
+    let clear : meetingTold (meetingVerdict job followed) .number ≡ 0 =
+    subst (λ (l : List ℕ). meetingTold (meetingVerdict job l) .number ≡ 0) (sym (given .written) ∙ back) (passes .meetings) in
+    let z : _≡_ {A = ℕ} 0 22 = sym clear ∙ followed-meets .1 in
+    omega (arith, z)

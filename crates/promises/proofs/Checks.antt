@@ -2,7 +2,6 @@
 -- each law is the law of the definitions carried along them. Assumes nothing.
 use Prim.Native.Nat.{ℕ, _+_, _≤_, _<_}
 use native.Mathlib.Omega.{arith}
-use native.Mathlib.Nat.{le-refl}
 use mathlib.Core.Path.{_≡_, refl, sym, ap, _∙_}
 use mathlib.Core.List.{List}
 use mathlib.Core.Logic.{_⊎_, inl, inr, _↔_}
@@ -14,7 +13,7 @@ use Rattle.lists.proofs.Tests.{is-true, is-false, of-true}
 use Rattle.lists.proofs.Every.{every-member}
 use Rattle.lists.proofs.Orders.{Ordered, ordered-rows, LeastFact, first-least}
 use Rattle.lists.proofs.Passing.{FirstFact}
-use Rattle.job.specs.Job.{Job, slipOf, mostSlip, planLength, planCell}
+use Rattle.job.specs.Job.{Job, planLength, planCell}
 use Rattle.job.specs.Told.{bare, refusal}
 use Rattle.job.specs.Verdict.{judge, ifAccepted, IsAccepted}
 use Rattle.job.specs.declared.Fault.{Fault}
@@ -23,7 +22,7 @@ use Rattle.job.proofs.Due.{checks-accept-exactly as exactly, check-due}
 use Rattle.job.proofs.Refused.{if-refused}
 use Rattle.routes.specs.Check.{Place, places, firstWrongPlace, placeVerdict, planVerdict, routeVerdict, routeTold}
 use Rattle.routes.specs.declared.RouteVerdict.the-variants.{Refused as RouteRefused, Short as RouteShort, Wrong}
-use Rattle.clashes.specs.Check.{planClash, compared, meetingVerdict, meetingTold}
+use Rattle.clashes.specs.Check.{planTravel, planClash, compared, meetingVerdict, meetingTold}
 use Rattle.clashes.specs.declared.MeetingVerdict.the-variants.{Refused as MeetingRefused, Short as MeetingShort}
 use Rattle.clashes.proofs.First.{chosen-right}
 use Rattle.checks.specs.Demand.{LawfulRoutes, Passes}
@@ -153,6 +152,6 @@ pub chosen-told : ChosenTold OurMeetings
 unfolding ChosenTold planClash
 chosen-told job plan m meetings right long = (
   planClash job plan,
-  chosen-right (planCell job plan) (slipOf job) (mostSlip job) (job .horizon) (job .count) (λ i l. le-refl (job .delay)),
+  chosen-right (planTravel job plan) (job .count),
   meetings ∙ ap meetingTold (meeting-verdict job plan (exactly job .1 right) long),
 )

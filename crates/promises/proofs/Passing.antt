@@ -1,13 +1,13 @@
 -- A plan of a right job passes both checks where it stands in the output: its routes are read back as they were written, and the cells
 -- compared are theirs. Assumes nothing.
 use Prim.Native.Nat.{ℕ, _≤_, _<_}
-use native.Mathlib.Nat.{le-refl}
 use mathlib.Core.List.{List}
 use mathlib.Core.Path.{_≡_, sym, ap, subst, _∙_}
 use lib.ListN.{length}
-use Rattle.job.specs.Job.{Job, slipOf, mostSlip, planLength, planCell}
+use Rattle.job.specs.Job.{Job, planLength, planCell}
 use Rattle.job.specs.Verdict.{IsAccepted}
 use Rattle.routes.specs.Route.{Lawful, cellOf, routeIn}
+use Rattle.clashes.specs.Check.{planTravel}
 use Rattle.clashes.specs.Chosen.{chosen}
 use Rattle.clashes.specs.declared.Clash.the-variants.{Clear}
 use Rattle.clashes.proofs.Chosen.{clear-apart, apart-clear}
@@ -15,7 +15,7 @@ use Rattle.clashes.proofs.Holds.{apart-survives}
 use Rattle.clashes.proofs.Same.{chosen-same}
 use Rattle.checks.specs.Demand.{LawfulRoutes, Passes, Safe}
 use Rattle.checks.proofs.Demand.{route-cell, plan-check-exact}
-use Rattle.tree.specs.Plan.{Routes, routeOf, cellsOf, IsPlan}
+use Rattle.tree.specs.Plan.{Routes, routeOf, cellsOf, travels, IsPlan}
 use Rattle.tables.specs.Tables.{planWritten}
 use Rattle.tables.proofs.Held.{plan-long, route-held}
 
@@ -35,18 +35,15 @@ module _ (job : Job) (rs : Routes) (plan : IsPlan job rs) (output : List ℕ) wh
   pub same-cells : (i t : ℕ) → i < job .count → t ≤ job .horizon → planCell job bytes i t ≡ cellsOf rs i t
   same-cells i t l step = sym (route-cell job bytes long i l t step) ∙ ap (λ (r : List ℕ). cellOf r t) (held i l)
 
-  slips : (i : ℕ) → i < job .count → slipOf job i ≤ mostSlip job
-  slips i l = le-refl (job .delay)
-
-  written-clear : chosen (planCell job bytes) (slipOf job) (mostSlip job) (job .horizon) (job .count) ≡ Clear
+  written-clear : chosen (planTravel job bytes) (job .count) ≡ Clear
   written-clear =
-      chosen-same (planCell job bytes) (cellsOf rs) (slipOf job) (mostSlip job) (job .horizon) (job .count) same-cells
-      ∙ apart-clear (cellsOf rs) (slipOf job) (mostSlip job) (job .horizon) (job .count) slips (plan .apart)
+      chosen-same (planTravel job bytes) (cellsOf rs) (job .count) same-cells
+      ∙ apart-clear (travels job rs) (job .count) (plan .apart)
 
   written-safe : Safe job bytes
   written-safe =
-      apart-survives (planCell job bytes) (slipOf job) (job .horizon) (job .count)
-      (clear-apart (planCell job bytes) (slipOf job) (mostSlip job) (job .horizon) (job .count) slips written-clear)
+      apart-survives (planTravel job bytes) (job .count)
+      (clear-apart (planTravel job bytes) (job .count) written-clear)
 
   pub written-passes : IsAccepted job → Passes job bytes
   written-passes accepted = plan-check-exact job bytes accepted written-lawful .1 written-safe

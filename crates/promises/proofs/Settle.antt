@@ -10,7 +10,7 @@ use mathlib.Core.Logic.{_⊎_, inl, inr}
 use mathlib.Core.Option.{Option, none, some}
 use lib.ListN.{length}
 use Rattle.lists.proofs.Tests.{not-both}
-use Rattle.job.specs.Job.{Job, slipOf, planLength, planCell, wrongCapacity}
+use Rattle.job.specs.Job.{Job, planLength, planCell, wrongCapacity}
 use Rattle.job.specs.Due.{RightJob, RightCapacity}
 use Rattle.job.specs.Told.{bare, tooShort, refusal}
 use Rattle.job.specs.Verdict.{judgeWith, judge}
@@ -21,7 +21,7 @@ use Rattle.job.proofs.Due.{accepted-exactly, checks-accept-exactly}
 use Rattle.job.proofs.Refused.{accepts-or-not}
 use Rattle.routes.specs.Check.{routeTold}
 use Rattle.routes.specs.declared.RouteVerdict.the-variants.{Wrong}
-use Rattle.clashes.specs.Check.{clashTold}
+use Rattle.clashes.specs.Check.{planTravel, clashTold}
 use Rattle.clashes.proofs.First.{right-choice-unique}
 use Rattle.checks.specs.Demand.{LawfulRoutes}
 use Rattle.checks.specs.First.{NoneWrong, FirstWrongPlace}
@@ -188,7 +188,7 @@ module _ (routes meetings : Check) (first : ChecksRefuseFirst routes meetings) (
   whole-same right long =
       let (c, choice, e) = chosen job plan m q right long in
       let (c′, choice′, e′) = chosen-told job plan m′ q′ right long in
-      let same : c ≡ c′ = right-choice-unique (planCell job plan) (slipOf job) (job .horizon) (job .count) c c′ choice choice′ in
+      let same : c ≡ c′ = right-choice-unique (planTravel job plan) (job .count) c c′ choice choice′ in
       (found-one job plan r r′ (wrong job plan r p right long) (first-wrong-told job plan r′ p′ right long), e ∙ ap clashTold same ∙ sym e′)
 
   right-same : RightJob job → Dec (planLength job ≤ length plan) → (r ≡ r′) × (m ≡ m′)

@@ -4,7 +4,7 @@
 use Prim.Native.Nat.{ℕ}
 use mathlib.Core.List.{List, [], _∷_, map}
 use mathlib.Core.Path.{_≡_}
-use Rattle.job.specs.declared.Verdict.the-variants.{WrongGrid, WrongBytes, WrongLimits, WrongCount, WrongEnds, SharedStart, SharedGoal}
+use Rattle.job.specs.declared.Verdict.the-variants.{WrongGrid, WrongBytes, WrongLimits, WrongCount, WrongCarrier, SharedStart, SharedGoal}
 use Rattle.routes.specs.Check.{routeTold}
 use Rattle.routes.specs.declared.RouteVerdict.the-variants.{Lawful, Refused as RouteRefused, Short as RouteShort, Wrong}
 use Rattle.clashes.specs.Check.{meetingTold}
@@ -33,7 +33,7 @@ planRows sum records i j table needed =
     ∷ row (toldValues (answerTold (Refused WrongBytes))) (2 ∷ 0 ∷ 0 ∷ 0 ∷ 0 ∷ 0 ∷ 0 ∷ [])
     ∷ row (toldValues (answerTold (Refused WrongLimits))) (3 ∷ 0 ∷ 0 ∷ 0 ∷ 0 ∷ 0 ∷ 0 ∷ [])
     ∷ row (toldValues (answerTold (Refused WrongCount))) (4 ∷ 0 ∷ 0 ∷ 0 ∷ 0 ∷ 0 ∷ 0 ∷ [])
-    ∷ row (toldValues (answerTold (Refused (WrongEnds i)))) (5 ∷ 0 ∷ 0 ∷ i ∷ 0 ∷ 0 ∷ 0 ∷ [])
+    ∷ row (toldValues (answerTold (Refused (WrongCarrier i)))) (5 ∷ 0 ∷ 0 ∷ i ∷ 0 ∷ 0 ∷ 0 ∷ [])
     ∷ row (toldValues (answerTold (Refused (SharedStart i j)))) (6 ∷ 0 ∷ 0 ∷ i ∷ j ∷ 0 ∷ 0 ∷ [])
     ∷ row (toldValues (answerTold (Refused (SharedGoal i j)))) (16 ∷ 0 ∷ 0 ∷ i ∷ j ∷ 0 ∷ 0 ∷ [])
     ∷ row (toldValues (answerTold (Short table needed))) (7 ∷ 0 ∷ 0 ∷ 0 ∷ 0 ∷ table ∷ needed ∷ [])
@@ -50,7 +50,7 @@ routeRows i j t needed =
     ∷ row (faultValues (routeTold (RouteRefused WrongBytes))) (2 ∷ 0 ∷ 0 ∷ 0 ∷ 0 ∷ 0 ∷ 0 ∷ [])
     ∷ row (faultValues (routeTold (RouteRefused WrongLimits))) (3 ∷ 0 ∷ 0 ∷ 0 ∷ 0 ∷ 0 ∷ 0 ∷ [])
     ∷ row (faultValues (routeTold (RouteRefused WrongCount))) (4 ∷ 0 ∷ 0 ∷ 0 ∷ 0 ∷ 0 ∷ 0 ∷ [])
-    ∷ row (faultValues (routeTold (RouteRefused (WrongEnds i)))) (5 ∷ i ∷ 0 ∷ 0 ∷ 0 ∷ 0 ∷ 0 ∷ [])
+    ∷ row (faultValues (routeTold (RouteRefused (WrongCarrier i)))) (5 ∷ i ∷ 0 ∷ 0 ∷ 0 ∷ 0 ∷ 0 ∷ [])
     ∷ row (faultValues (routeTold (RouteRefused (SharedStart i j)))) (6 ∷ i ∷ j ∷ 0 ∷ 0 ∷ 0 ∷ 0 ∷ [])
     ∷ row (faultValues (routeTold (RouteRefused (SharedGoal i j)))) (16 ∷ i ∷ j ∷ 0 ∷ 0 ∷ 0 ∷ 0 ∷ [])
     ∷ row (faultValues (routeTold (RouteShort needed))) (7 ∷ 0 ∷ 0 ∷ 0 ∷ 0 ∷ 0 ∷ needed ∷ [])
@@ -66,7 +66,7 @@ meetingRows i j t d needed =
     ∷ row (faultValues (meetingTold (MeetingRefused WrongBytes))) (2 ∷ 0 ∷ 0 ∷ 0 ∷ 0 ∷ 0 ∷ 0 ∷ [])
     ∷ row (faultValues (meetingTold (MeetingRefused WrongLimits))) (3 ∷ 0 ∷ 0 ∷ 0 ∷ 0 ∷ 0 ∷ 0 ∷ [])
     ∷ row (faultValues (meetingTold (MeetingRefused WrongCount))) (4 ∷ 0 ∷ 0 ∷ 0 ∷ 0 ∷ 0 ∷ 0 ∷ [])
-    ∷ row (faultValues (meetingTold (MeetingRefused (WrongEnds i)))) (5 ∷ i ∷ 0 ∷ 0 ∷ 0 ∷ 0 ∷ 0 ∷ [])
+    ∷ row (faultValues (meetingTold (MeetingRefused (WrongCarrier i)))) (5 ∷ i ∷ 0 ∷ 0 ∷ 0 ∷ 0 ∷ 0 ∷ [])
     ∷ row (faultValues (meetingTold (MeetingRefused (SharedStart i j)))) (6 ∷ i ∷ j ∷ 0 ∷ 0 ∷ 0 ∷ 0 ∷ [])
     ∷ row (faultValues (meetingTold (MeetingRefused (SharedGoal i j)))) (16 ∷ i ∷ j ∷ 0 ∷ 0 ∷ 0 ∷ 0 ∷ [])
     ∷ row (faultValues (meetingTold (MeetingShort needed))) (7 ∷ 0 ∷ 0 ∷ 0 ∷ 0 ∷ 0 ∷ needed ∷ [])

@@ -19,7 +19,7 @@ use mathlib.Core.Option.{Option, none, some}
 use lib.ListN.{length, take}
 use Rattle.lists.specs.Lists.{range, each}
 use Rattle.lent.specs.Lent.{zeroed}
-use Rattle.job.specs.Job.{Job, slipOf, planLength, planCell, wrongCapacity}
+use Rattle.job.specs.Job.{Job, planLength, planCell, wrongCapacity}
 use Rattle.job.specs.Due.{RightJob, RightCapacity, Due}
 use Rattle.job.specs.Told.{bare, tooShort, refusal, planTooShort}
 use Rattle.job.specs.Verdict.{judgeWith, judge, verdictTold}
@@ -28,7 +28,7 @@ use Rattle.job.specs.declared.Told.{Told}
 use Rattle.job.specs.declared.Fault.{Fault}
 use Rattle.routes.specs.Check.{routeTold}
 use Rattle.routes.specs.declared.RouteVerdict.the-variants.{Wrong}
-use Rattle.clashes.specs.Check.{clashTold}
+use Rattle.clashes.specs.Check.{planTravel, clashTold}
 use Rattle.clashes.specs.First.{RightChoice}
 use Rattle.clashes.specs.declared.Clash.{Clash}
 use Rattle.checks.specs.Demand.{LawfulRoutes, Safe, SafeNear}
@@ -106,7 +106,8 @@ NothingElse gives =
     → (told ≡ told′) × (after ≡ after′)
 
 -- ---- 2. 'A plan obeys the k-delay rule of Atzmon and others (2018), with the swap rule of Chen and others (2021) for k = 0, and no
--- ---- plan within the horizon that obeys it has a smaller sum of costs.'
+-- ---- plan within the horizon that obeys it has a smaller sum of costs.' P3: 'Demands 2 and 3 read each carrier's own slip from then on':
+-- ---- each job says its carriers' slips, and `IsPlan`, `IsSafe` and `Safe` read them.
 
 -- [zero-is-least] the output holds a plan, carrier by carrier, then what was there; the sum told is its own, and none is smaller
 pub record PlanGiven (job : Job) (before : Tables) (told : Told) (after : Tables) (rs : Routes) : Type 0 where
@@ -163,7 +164,8 @@ LeastOfTheSafe gives =
 
 -- ---- 3. 'For an accepted job and routes that start, step and end lawfully within the horizon, the plan check passes them exactly when no
 -- ---- pattern of holds, each carrier held at most k steps in all, brings two carriers into one cell or through each other, at any moment
--- ---- from the start on, the time after the last step included.' 'Passing both is what demand 3 calls the plan check.'
+-- ---- from the start on, the time after the last step included.' 'Passing both is what demand 3 calls the plan check.' For k each carrier's
+-- ---- own slip, as above.
 
 -- [check-is-exact]
 unfoldable pub CheckIsExact : Check → Check → Type 0
@@ -223,13 +225,13 @@ FirstWrongTold routes =
 unfoldable pub ChosenTold : Check → Type 0
 ChosenTold meetings =
     (job : Job) (plan : List ℕ) (m : Fault) → meetings job plan m → RightJob job → planLength job ≤ length plan
-    → (c : Clash) × RightChoice (planCell job plan) (slipOf job) (job .horizon) (job .count) c × (m ≡ clashTold c)
+    → (c : Clash) × RightChoice (planTravel job plan) (job .count) c × (m ≡ clashTold c)
 
--- ---- Beside the demands, document 01: 'The program reads at most 293 bytes from standard input, uses N = 128 and prints.'
+-- ---- Beside the demands, document 01: the program 'uses N = 128 and prints'. P3: 'the program reads at most 300 bytes'.
 --
 -- `ProgramPrinted book lent r given` is the whole contract of `lines::program_lines` (crate lines, specs/Program.antt), to which the
 -- program hands the bytes that it read: the first r bytes of the page are all of `programText book`, and no byte after them has changed.
--- There too: 293 bytes cut no accepted book (`AcceptedShort`, `AcceptedUncut`).
+-- There too: 300 bytes cut no accepted book, which has at most 299 (`AcceptedShort`, `AcceptedUncut`).
 
 -- [plan-printed] 'For 0, then `sum`, `records`, and for each carrier its number, cost and cells from step 0 to its cost.' The routes are a
 -- plan of the job in the book, with no smaller sum; the records are those told; no carrier is left out

@@ -10,15 +10,15 @@ use mathlib.Core.Bool.{false, true≢false}
 use mathlib.Core.List.{List, _++_}
 use Rattle.lists.specs.Lists.{Any}
 use Rattle.lists.proofs.Every.{any-append-left, any-append-right}
-use Rattle.job.specs.Job.{Job, slipOf}
+use Rattle.job.specs.Job.{Job}
 use Rattle.routes.specs.Route.{cellOf}
 use Rattle.routes.specs.Bars.{ObeysBar}
 use Rattle.routes.proofs.Binds.{Visits, Crosses, obeys-or-visits, obeys-or-crosses}
 use Rattle.routes.specs.declared.Bar.the-variants.{Stay, Cross}
-use Rattle.clashes.specs.Clash.{Meets, Swaps, Apart}
+use Rattle.clashes.specs.Clash.{Travel, Meets, Swaps, Apart}
 use Rattle.clashes.specs.declared.Clash.{Clash}
 use Rattle.clashes.specs.declared.Clash.the-variants.{Clear, Meeting, Swap}
-use Rattle.tree.specs.Plan.{Routes, routeOf, cellsOf, IsPlan}
+use Rattle.tree.specs.Plan.{Routes, routeOf, cellsOf, travels, IsPlan}
 use Rattle.tree.specs.Tree.{Node, clashOf, isClear, nodeClear, barOne, barTwo, child, kidsFor, kids}
 use Rattle.tree.proofs.Nodes.{In, child-covers, clash-fact}
 use Rattle.clashes.specs.First.{ChosenFact}
@@ -26,12 +26,12 @@ use Rattle.clashes.proofs.Holds.{apart-near}
 
 -- ---- two visits within the slips are a meeting of the plan
 
-module _ (at : ℕ → ℕ → ℕ) (slip : ℕ → ℕ) (h m i j : ℕ) (apart : Apart at slip h m) (li : i < m) (lj : j < m) (two : i ≡ j → ⊥) where
+module _ (v : Travel) (m i j : ℕ) (apart : Apart v m) (li : i < m) (lj : j < m) (two : i ≡ j → ⊥) where
   -- i is on v at a step from t to t + slip j: then j is not on v at any from t to t + slip i
-  visited-once : (r s : List ℕ) (v t : ℕ) → ((x : ℕ) → at i x ≡ cellOf r x) → ((x : ℕ) → at j x ≡ cellOf s x) → Visits h r v t (t + slip j) → ObeysBar h s (Stay v t (t + slip i))
+  visited-once : (r s : List ℕ) (c t : ℕ) → ((x : ℕ) → v .at i x ≡ cellOf r x) → ((x : ℕ) → v .at j x ≡ cellOf s x) → Visits (v .horizon) r c t (t + v .slip j) → ObeysBar (v .horizon) s (Stay c t (t + v .slip i))
   unfolding ObeysBar
-  visited-once r s v t ei ej w =
-      λ u a b c e. apart-near at slip h m apart i j (w .step) u li lj two (w .inside) c (omega (arith, w .after)) (omega (arith, w .before, w .after)) (ei (w .step) ∙ w .there ∙ sym e ∙ sym (ej u))
+  visited-once r s c t ei ej w =
+      λ u a b l e. apart-near v m apart i j (w .step) u li lj two (w .inside) l (omega (arith, w .after)) (omega (arith, w .before, w .after)) (ei (w .step) ∙ w .there ∙ sym e ∙ sym (ej u))
 
 module _ (job : Job) (n : Node) (rs : Routes) (plan : IsPlan job rs) (i j : ℕ) (li : i < job .count) (lj : j < job .count) (within : In job n rs) where
   -- the plan obeys bar one, or else bar two
@@ -45,19 +45,19 @@ module _ (job : Job) (n : Node) (rs : Routes) (plan : IsPlan job rs) (i j : ℕ)
       any-append-right (λ k. In job k rs) (child job n (barOne job n c)) (child job n (barTwo job n c))
       (child-covers job n (barTwo job n c) rs (plan .family) (rw f lj) within (rw f o))
 
-  meeting-covered : (t d : ℕ) → Meets (cellsOf (n .routes)) (slipOf job) (job .horizon) i j t d → Any (λ k. In job k rs) (kidsFor job n (Meeting i j t d))
+  meeting-covered : (t d : ℕ) → Meets (travels job (n .routes)) i j t d → Any (λ k. In job k rs) (kidsFor job n (Meeting i j t d))
   unfolding kidsFor barOne barTwo
   meeting-covered t d meets =
       either-child (Meeting i j t d) refl refl
-      (go (obeys-or-visits (job .horizon) (routeOf rs i) (cellsOf (n .routes) i t) t (t + slipOf job j)))
+      (go (obeys-or-visits (job .horizon) (routeOf rs i) (cellsOf (n .routes) i t) t (t + job .slipOf j)))
     where
-      go : ObeysBar (job .horizon) (routeOf rs i) (Stay (cellsOf (n .routes) i t) t (t + slipOf job j)) ⊎ Visits (job .horizon) (routeOf rs i) (cellsOf (n .routes) i t) t (t + slipOf job j)
-          → ObeysBar (job .horizon) (routeOf rs i) (Stay (cellsOf (n .routes) i t) t (t + slipOf job j)) ⊎ ObeysBar (job .horizon) (routeOf rs j) (Stay (cellsOf (n .routes) i t) t (t + slipOf job i))
+      go : ObeysBar (job .horizon) (routeOf rs i) (Stay (cellsOf (n .routes) i t) t (t + job .slipOf j)) ⊎ Visits (job .horizon) (routeOf rs i) (cellsOf (n .routes) i t) t (t + job .slipOf j)
+          → ObeysBar (job .horizon) (routeOf rs i) (Stay (cellsOf (n .routes) i t) t (t + job .slipOf j)) ⊎ ObeysBar (job .horizon) (routeOf rs j) (Stay (cellsOf (n .routes) i t) t (t + job .slipOf i))
       go (inl o) = inl o
       go (inr w) =
-          inr (visited-once (cellsOf rs) (slipOf job) (job .horizon) (job .count) i j (plan .apart) li lj (meets .two) (routeOf rs i) (routeOf rs j) (cellsOf (n .routes) i t) t (λ x. refl) (λ x. refl) w)
+          inr (visited-once (travels job rs) (job .count) i j (plan .apart) li lj (meets .two) (routeOf rs i) (routeOf rs j) (cellsOf (n .routes) i t) t (λ x. refl) (λ x. refl) w)
 
-  swap-covered : (t : ℕ) → Swaps (cellsOf (n .routes)) (slipOf job) (job .horizon) i j t → Any (λ k. In job k rs) (kidsFor job n (Swap i j t))
+  swap-covered : (t : ℕ) → Swaps (travels job (n .routes)) i j t → Any (λ k. In job k rs) (kidsFor job n (Swap i j t))
   unfolding kidsFor barOne barTwo ObeysBar
   swap-covered t swaps =
       either-child (Swap i j t) refl refl
@@ -81,7 +81,7 @@ pub kids-cover : (job : Job) (n : Node) (rs : Routes) → IsPlan job rs → node
 unfolding kids nodeClear isClear ChosenFact
 kids-cover job n rs plan e within = go (clashOf job n) (clash-fact job n) e
   where
-    go : (c : Clash) → ChosenFact (cellsOf (n .routes)) (slipOf job) (job .horizon) (job .count) c → isClear c ≡ false → Any (λ k. In job k rs) (kidsFor job n c)
+    go : (c : Clash) → ChosenFact (travels job (n .routes)) (job .count) c → isClear c ≡ false → Any (λ k. In job k rs) (kidsFor job n c)
     go Clear fact e = absurd (true≢false e)
     go (Meeting i j t d) fact e = meeting-covered job n rs plan i j (fact .one) (fact .other) within t d (fact .is)
     go (Swap i j t) fact e = swap-covered job n rs plan i j (fact .one) (fact .other) within t (fact .is)

@@ -14,7 +14,7 @@ use lib.Seq.{getD-set-same, getD-set-other}
 use Rattle.lists.specs.Lists.{Every, Any}
 use Rattle.lists.proofs.Every.{every-append}
 use Rattle.lists.proofs.Sums.{sum-le}
-use Rattle.job.specs.Job.{Job, slipOf, mostSlip}
+use Rattle.job.specs.Job.{Job}
 use Rattle.routes.specs.Route.{Lawful, cost}
 use Rattle.routes.specs.Bars.{Barred, barsFor, Obeys, ObeysBar}
 use Rattle.routes.specs.Best.{BestRoute, RightRoute, bestRoute}
@@ -22,7 +22,7 @@ use Rattle.routes.proofs.Binds.{own-bar-binds, other-bar-binds-not, obeys-one-m
 use Rattle.routes.specs.declared.Bar.{Bar}
 use Rattle.clashes.specs.declared.Clash.{Clash}
 use Rattle.clashes.specs.declared.Clash.the-variants.{Clear, Meeting, Swap}
-use Rattle.tree.specs.Plan.{Routes, routeOf, cellsOf, total, Family}
+use Rattle.tree.specs.Plan.{Routes, routeOf, cellsOf, travels, total, Family}
 use Rattle.tree.specs.Tree.{Node, routeUnder, withRoute, freeRoutes, rootOf, root, nodeSum, clashOf, barOne, barTwo, childWith, child, kidsFor, kids}
 use Rattle.clashes.specs.First.{ChosenFact}
 use Rattle.clashes.proofs.Chosen.{chosen-fact}
@@ -89,12 +89,9 @@ module _ (job : Job) (n : Node) (b : Barred) where
 
 -- ---- the children of a node
 
-slips-bounded : (job : Job) (i : ℕ) → i < job .count → slipOf job i ≤ mostSlip job
-slips-bounded job i l = le-refl (job .delay)
-
-pub clash-fact : (job : Job) (n : Node) → ChosenFact (cellsOf (n .routes)) (slipOf job) (job .horizon) (job .count) (clashOf job n)
+pub clash-fact : (job : Job) (n : Node) → ChosenFact (travels job (n .routes)) (job .count) (clashOf job n)
 unfolding clashOf
-clash-fact job n = chosen-fact (cellsOf (n .routes)) (slipOf job) (mostSlip job) (job .horizon) (job .count) (slips-bounded job)
+clash-fact job n = chosen-fact (travels job (n .routes)) (job .count)
 
 two-good : (job : Job) (n : Node) (a b : Barred) → Good job n → a .carrier < job .count → b .carrier < job .count → Every (Good job) (child job n a ++ child job n b)
 two-good job n a b g l m = every-append (Good job) (child job n a) (child job n b) (child-good job n a g l) (child-good job n b g m)
@@ -103,7 +100,7 @@ pub kids-good : (job : Job) (n : Node) → Good job n → Every (Good job) (kids
 unfolding kids kidsFor barOne barTwo Every ChosenFact
 kids-good job n g = go (clashOf job n) (clash-fact job n)
   where
-    go : (c : Clash) → ChosenFact (cellsOf (n .routes)) (slipOf job) (job .horizon) (job .count) c → Every (Good job) (kidsFor job n c)
+    go : (c : Clash) → ChosenFact (travels job (n .routes)) (job .count) c → Every (Good job) (kidsFor job n c)
     go Clear fact = tt
     go (Meeting i j t d) fact = two-good job n (barOne job n (Meeting i j t d)) (barTwo job n (Meeting i j t d)) g (fact .one) (fact .other)
     go (Swap i j t) fact = two-good job n (barOne job n (Swap i j t)) (barTwo job n (Swap i j t)) g (fact .one) (fact .other)

@@ -7,7 +7,7 @@ use mathlib.Core.Bool.{true, false, true≢false}
 use mathlib.Core.Option.{Option, none, some}
 use lib.ListN.{length}
 use Rattle.lists.specs.Lists.{Every, Any}
-use Rattle.job.specs.Job.{Job, slipOf}
+use Rattle.job.specs.Job.{Job}
 use Rattle.clashes.specs.Clash.{Apart}
 use Rattle.clashes.specs.declared.Clash.{Clash}
 use Rattle.clashes.specs.declared.Clash.the-variants.{Clear, Meeting, Swap}
@@ -15,7 +15,7 @@ use Rattle.search.specs.Search.{done}
 use Rattle.search.proofs.Goes.{Goes, search-goes}
 use Rattle.search.proofs.Least.{found-least, spent-none}
 use Rattle.search.proofs.Need.{need-exists}
-use Rattle.tree.specs.Plan.{Routes, cellsOf, total, Family, IsPlan, IsSafe}
+use Rattle.tree.specs.Plan.{Routes, cellsOf, travels, total, Family, IsPlan, IsSafe}
 use Rattle.tree.specs.Tree.{Node, root, nodeSum, clashOf, isClear, nodeClear, kids, tree}
 use Rattle.tree.specs.Promises.{LeastPlan, NoneExists, NeedIs, Need}
 use Rattle.tree.proofs.Nodes.{Good, In, clash-fact, kids-good, sum-bounds, root-good, root-covers, root-length}
@@ -52,11 +52,11 @@ module _ (job : Job) where
   unfolding tree
   goes capacity l = search-goes (nodeSum job) (nodeClear job) (kids job) capacity (root job) (omega (arith, root-length job))
 
-  clear-apart : (n : Node) → nodeClear job n ≡ true → Apart (cellsOf (n .routes)) (slipOf job) (job .horizon) (job .count)
+  clear-apart : (n : Node) → nodeClear job n ≡ true → Apart (travels job (n .routes)) (job .count)
   unfolding nodeClear isClear ChosenFact
   clear-apart n e = go (clashOf job n) (clash-fact job n) e
     where
-      go : (c : Clash) → ChosenFact (cellsOf (n .routes)) (slipOf job) (job .horizon) (job .count) c → isClear c ≡ true → Apart (cellsOf (n .routes)) (slipOf job) (job .horizon) (job .count)
+      go : (c : Clash) → ChosenFact (travels job (n .routes)) (job .count) c → isClear c ≡ true → Apart (travels job (n .routes)) (job .count)
       go Clear fact e = fact
       go (Meeting i j t d) fact e = absurd (true≢false (sym e))
       go (Swap i j t) fact e = absurd (true≢false (sym e))
@@ -66,10 +66,10 @@ module _ (job : Job) where
 
   -- demand 3 of a family: no meeting and no swap exactly if no pattern of holds collides
   plan-safe : (rs : Routes) → IsPlan job rs → IsSafe job rs
-  plan-safe rs p = apart-survives (cellsOf rs) (slipOf job) (job .horizon) (job .count) (p .apart)
+  plan-safe rs p = apart-survives (travels job rs) (job .count) (p .apart)
 
   safe-plan : (rs : Routes) → Family job rs → IsSafe job rs → IsPlan job rs
-  safe-plan rs f s = record { family = f; apart = survives-apart (cellsOf rs) (slipOf job) (job .horizon) (job .count) s }
+  safe-plan rs f s = record { family = f; apart = survives-apart (travels job rs) (job .count) s }
 
   -- answer 0
   pub tree-least : (capacity : ℕ) → 1 ≤ capacity → (n : Node) (r : ℕ) → tree job capacity ≡ done (some n) r → LeastPlan job (n .routes) (nodeSum job n)

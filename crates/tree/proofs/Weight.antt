@@ -17,7 +17,7 @@ use Rattle.lists.proofs.Members.{member-each, member-map, member-range, member-
 use Rattle.lists.proofs.Passing.{any-member, member-any}
 use Rattle.lists.proofs.Sums.{count, count-falls, totalOf, total-append}
 use Rattle.hall.specs.Hall.{size, isOpen, openByte}
-use Rattle.job.specs.Job.{Job, slipOf}
+use Rattle.job.specs.Job.{Job}
 use Rattle.routes.specs.Route.{cellOf}
 use Rattle.routes.specs.Bars.{Barred, barsFor, barsCell, barsWay, Obeys, ObeysBar}
 use Rattle.routes.proofs.Bars.{obeys-cell, obeys-way}
@@ -26,7 +26,7 @@ use Rattle.routes.specs.declared.Bar.the-variants.{Cross}
 use Rattle.clashes.specs.Clash.{Meets, Swaps}
 use Rattle.clashes.specs.declared.Clash.{Clash}
 use Rattle.clashes.specs.declared.Clash.the-variants.{Clear, Meeting, Swap}
-use Rattle.tree.specs.Plan.{routeOf, cellsOf}
+use Rattle.tree.specs.Plan.{routeOf, cellsOf, travels}
 use Rattle.tree.specs.Tree.{Node, routeUnder, clashOf, isClear, nodeClear, barOne, barTwo, childWith, child, kidsFor, kids}
 use Rattle.tree.proofs.Nodes.{Good, clash-fact}
 use Rattle.clashes.specs.First.{ChosenFact}
@@ -155,7 +155,7 @@ two-lighter job n a b p q = omega (arith, total-append (weight job) (child job n
 -- ---- the law that the search asks for
 
 module _ (job : Job) (n : Node) (good : Good job n) where
-  meeting-lighter : (i j t d : ℕ) → i < job .count → j < job .count → Meets (cellsOf (n .routes)) (slipOf job) (job .horizon) i j t d → totalOf (weight job) (kidsFor job n (Meeting i j t d)) < weight job n
+  meeting-lighter : (i j t d : ℕ) → i < job .count → j < job .count → Meets (travels job (n .routes)) i j t d → totalOf (weight job) (kidsFor job n (Meeting i j t d)) < weight job n
   unfolding kidsFor barOne barTwo forbids barsCell
   meeting-lighter i j t d li lj meets =
       let v : ℕ = cellsOf (n .routes) i t in
@@ -165,13 +165,13 @@ module _ (job : Job) (n : Node) (good : Good job n) where
       let fj : T (isFree (n .bars) (on j (t + d) v)) = subst (λ (c : ℕ). T (isFree (n .bars) (on j (t + d) c))) (sym (meets .same)) (on-free job n good j lj (t + d) (meets .inside)) in
       two-lighter job n (barOne job n (Meeting i j t d)) (barTwo job n (Meeting i j t d))
       (child-lighter job n (barOne job n (Meeting i j t d)) (on i t v) (on-listed job i t v li lt vi) (on-free job n good i li t lt)
-      (both-and (eqb i i) (eqb v v && (leb t t && leb t (t + slipOf job j))) (eqb-refl i)
-      (both-and (eqb v v) (leb t t && leb t (t + slipOf job j)) (eqb-refl v)
-      (both-and (leb t t) (leb t (t + slipOf job j)) (le→leb t t (omega arith)) (le→leb t (t + slipOf job j) (omega arith))))))
+      (both-and (eqb i i) (eqb v v && (leb t t && leb t (t + job .slipOf j))) (eqb-refl i)
+      (both-and (eqb v v) (leb t t && leb t (t + job .slipOf j)) (eqb-refl v)
+      (both-and (leb t t) (leb t (t + job .slipOf j)) (le→leb t t (omega arith)) (le→leb t (t + job .slipOf j) (omega arith))))))
       (child-lighter job n (barTwo job n (Meeting i j t d)) (on j (t + d) v) (on-listed job j (t + d) v lj (meets .inside) vi) fj
-      (both-and (eqb j j) (eqb v v && (leb t (t + d) && leb (t + d) (t + slipOf job i))) (eqb-refl j)
-      (both-and (eqb v v) (leb t (t + d) && leb (t + d) (t + slipOf job i)) (eqb-refl v)
-      (both-and (leb t (t + d)) (leb (t + d) (t + slipOf job i)) (le→leb t (t + d) (omega arith)) (le→leb (t + d) (t + slipOf job i) (omega (arith, meets .near)))))))
+      (both-and (eqb j j) (eqb v v && (leb t (t + d) && leb (t + d) (t + job .slipOf i))) (eqb-refl j)
+      (both-and (eqb v v) (leb t (t + d) && leb (t + d) (t + job .slipOf i)) (eqb-refl v)
+      (both-and (leb t (t + d)) (leb (t + d) (t + job .slipOf i)) (le→leb t (t + d) (omega arith)) (le→leb (t + d) (t + job .slipOf i) (omega (arith, meets .near)))))))
 
   crossing-lighter : (b : Barred) (i t : ℕ) → i < job .count → t + 1 ≤ job .horizon → b ≡ record { carrier = i; bar = Cross (cellsOf (n .routes) i t) (cellsOf (n .routes) i (t + 1)) t } → 4 * totalOf (weight job) (child job n b) ≤ weight job n
   unfolding forbids barsWay
@@ -184,7 +184,7 @@ module _ (job : Job) (n : Node) (good : Good job n) where
       (rw e (both-and (eqb i i) (eqb t t && (eqb u u && eqb w w)) (eqb-refl i)
       (both-and (eqb t t) (eqb u u && eqb w w) (eqb-refl t) (both-and (eqb u u) (eqb w w) (eqb-refl u) (eqb-refl w)))))
 
-  swap-lighter : (i j t : ℕ) → i < job .count → j < job .count → Swaps (cellsOf (n .routes)) (slipOf job) (job .horizon) i j t → totalOf (weight job) (kidsFor job n (Swap i j t)) < weight job n
+  swap-lighter : (i j t : ℕ) → i < job .count → j < job .count → Swaps (travels job (n .routes)) i j t → totalOf (weight job) (kidsFor job n (Swap i j t)) < weight job n
   unfolding kidsFor barOne barTwo
   swap-lighter i j t li lj swaps =
       two-lighter job n (barOne job n (Swap i j t)) (barTwo job n (Swap i j t))
@@ -195,7 +195,7 @@ module _ (job : Job) (n : Node) (good : Good job n) where
   unfolding kids nodeClear isClear ChosenFact
   kids-lighter e = go (clashOf job n) (clash-fact job n) e
     where
-      go : (c : Clash) → ChosenFact (cellsOf (n .routes)) (slipOf job) (job .horizon) (job .count) c → isClear c ≡ false → totalOf (weight job) (kidsFor job n c) < weight job n
+      go : (c : Clash) → ChosenFact (travels job (n .routes)) (job .count) c → isClear c ≡ false → totalOf (weight job) (kidsFor job n c) < weight job n
       go Clear fact e = absurd (true≢false e)
       go (Meeting i j t d) fact e = meeting-lighter i j t d (fact .one) (fact .other) (fact .is)
       go (Swap i j t) fact e = swap-lighter i j t (fact .one) (fact .other) (fact .is)

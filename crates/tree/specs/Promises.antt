@@ -9,7 +9,8 @@ use Rattle.tree.specs.Plan.{Routes, total, Family, IsPlan, IsSafe}
 use Rattle.tree.specs.Tree.{Node, tree}
 
 -- Answer 0. 'A plan obeys the k-delay rule of Atzmon and others (2018), with the swap rule of Chen and others (2021) for k = 0, and no
--- plan within the horizon that obeys it has a smaller sum of costs.' The plans compared with are any lists of cells that are lawful.
+-- plan within the horizon that obeys it has a smaller sum of costs.' Since P3 each carrier's own slip is read for k. The plans compared
+-- with are any lists of cells that are lawful.
 -- 'So the plan returned has the least sum among all that survive every such pattern.'
 pub record LeastPlan (job : Job) (rs : Routes) (sum : ℕ) : Type 0 where
   pub plan : IsPlan job rs

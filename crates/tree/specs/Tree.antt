@@ -4,7 +4,7 @@ use mathlib.Core.Bool.{Bool, true, false}
 use mathlib.Core.List.{List, [], _∷_, _++_}
 use mathlib.Core.Option.{Option, none, some}
 use lib.ListN.{set}
-use Rattle.job.specs.Job.{Job, slipOf, mostSlip}
+use Rattle.job.specs.Job.{Job}
 use Rattle.routes.specs.Bars.{Barred, barsFor}
 use Rattle.routes.specs.Best.{bestRoute}
 use Rattle.routes.specs.declared.Bar.the-variants.{Free, Stay, Cross}
@@ -12,7 +12,7 @@ use Rattle.clashes.specs.Chosen.{chosen}
 use Rattle.clashes.specs.declared.Clash.{Clash}
 use Rattle.clashes.specs.declared.Clash.the-variants.{Clear, Meeting, Swap}
 use Rattle.search.specs.Search.{Outcome, search}
-use Rattle.tree.specs.Plan.{Routes, cellsOf, total}
+use Rattle.tree.specs.Plan.{Routes, cellsOf, travels, total}
 
 -- Rule 1. 'A bar binds a node if it stands in that node's record or in the record of one of its ancestors.' A node has all
 -- bars that bind it, its own in front, and a route for each carrier.
@@ -47,7 +47,7 @@ nodeSum job n = total job (n .routes)
 
 -- Rule 5. The chosen meeting or swap of a node.
 unfoldable pub clashOf : Job → Node → Clash
-clashOf job n = chosen (cellsOf (n .routes)) (slipOf job) (mostSlip job) (job .horizon) (job .count)
+clashOf job n = chosen (travels job (n .routes)) (job .count)
 
 unfoldable pub isClear : Clash → Bool
 isClear Clear = true
@@ -57,17 +57,17 @@ isClear (Swap i j t) = false
 unfoldable pub nodeClear : Job → Node → Bool
 nodeClear job n = isClear (clashOf job n)
 
--- Rule 6. 'For a meeting on cell v, child one bars i and child two bars j, each from v over steps t to t + k (steps past H
--- are dropped, which changes nothing). For a swap each is barred from its own crossing at t.' With slips of their own, i is
--- barred as long as j may slip, and j as long as i may. Steps past H are left in: no route has any.
+-- Rule 6. 'For a meeting on cell v, child one bars i and child two bars j', and P3: 'Take e as the smaller step: i is barred from e to
+-- e + slip of j, j from e to e + slip of i, the earlier carrier in child one.' 'For a swap each is barred from its own crossing at t.'
+-- A meeting has its earlier carrier first. Steps past H are left in: no route has any.
 unfoldable pub barOne : Job → Node → Clash → Barred
 barOne job n Clear = record { carrier = 0; bar = Free }
-barOne job n (Meeting i j t d) = record { carrier = i; bar = Stay (cellsOf (n .routes) i t) t (t + slipOf job j) }
+barOne job n (Meeting i j t d) = record { carrier = i; bar = Stay (cellsOf (n .routes) i t) t (t + job .slipOf j) }
 barOne job n (Swap i j t) = record { carrier = i; bar = Cross (cellsOf (n .routes) i t) (cellsOf (n .routes) i (t + 1)) t }
 
 unfoldable pub barTwo : Job → Node → Clash → Barred
 barTwo job n Clear = record { carrier = 0; bar = Free }
-barTwo job n (Meeting i j t d) = record { carrier = j; bar = Stay (cellsOf (n .routes) i t) t (t + slipOf job i) }
+barTwo job n (Meeting i j t d) = record { carrier = j; bar = Stay (cellsOf (n .routes) i t) t (t + job .slipOf i) }
 barTwo job n (Swap i j t) = record { carrier = j; bar = Cross (cellsOf (n .routes) j t) (cellsOf (n .routes) j (t + 1)) t }
 
 -- Rule 7. 'In that order, a child whose barred carrier has a route takes the next number and one record; a child without

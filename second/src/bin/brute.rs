@@ -2,15 +2,18 @@
 //! have to wait: the planner against brute force (a) and against the rules taken
 //! word by word, routes under random bars against the list of all routes, and the
 //! two plan checks against brute force (b) and the list of all walks; and, also
-//! with as many jobs in which ends are often shared, refusals 6, 16 and 7 against
-//! the list of all pairs and each table's sentence. It prints counts, among them
-//! how many routes and answers would show each wrong turn with P2, and stops at
-//! the first difference with the job printed.
+//! with as many jobs in which ends are often shared and as many in which carriers'
+//! records are wrong, refusals 5, 6, 16 and 7 against lists of all carriers and all
+//! pairs and each table's sentence. It prints counts, among them how many routes,
+//! answers, told meetings and refusals would show each wrong turn with P2 and each
+//! wrong version of P3, and stops at the first difference with the job printed.
 
 use std::collections::BTreeMap;
 use std::process::ExitCode;
 
 use second::bar::{Bar, Barred, CarrierBar};
+use second::brute::slips::P3;
+use second::brute::wrong_slips::{ONE_K, SWAPS_WITH_ONE, WRONG_REFUSALS, WRONG_SLIPS};
 use second::brute::wrong_turns::WRONG_TURNS;
 use second::brute::{holds, least_sum, loops, refusals, tree_by_words, walks};
 use second::check;
@@ -66,13 +69,15 @@ fn request(arguments: &[String]) -> Option<(u64, usize)> {
 }
 
 /// A small job, one in which carriers have to wait, and for the refusals also one
-/// in which ends are often shared.
+/// in which ends are often shared and one in which carriers' records are wrong.
 fn try_each(random: &mut Random, counts: &mut Counts) -> Trial {
     let (small, waiting) = (generate::small(random), generate::small_waiting(random));
     for job in [&small, &waiting] {
         try_job(random, job, counts).map_err(|why| format!("{why}\n{job:?}"))?;
     }
-    for job in [small, waiting, damage::sharing_job(random)] {
+    let sharing = damage::sharing_job(random);
+    let wrong = damage::wrong_carriers_job(random);
+    for job in [small, waiting, sharing, wrong] {
         try_refusals(random, &job, counts).map_err(|why| format!("{why}\n{job:?}"))?;
     }
     Ok(())
@@ -82,6 +87,7 @@ fn try_job(random: &mut Random, job: &Job, counts: &mut Counts) -> Trial {
     let answer = planner::plan(job, MOST_RECORDS);
     try_tree(random, job, &answer, counts)?;
     count_turns_in_answers(job, counts);
+    try_slips_in_answers(job, counts)?;
     try_least_sum(job, &answer, counts)?;
     try_bars(random, job, counts)?;
     for (kind, plan) in plans(random, job, &answer) {
@@ -137,9 +143,14 @@ fn try_plan(job: &Job, answer: &PlanAnswer) -> Trial {
         let lawful = walks::routes(job, carrier).contains(route);
         same("a route of the plan is lawful", lawful, true)?;
         sum += walks::cost(route, carrier.goal);
-        let others = &answer.routes[..i];
-        let agree = others.iter().all(|o| least_sum::agree(o, route, job.k));
-        same("the routes of the plan agree", agree, true)?;
+        let others = answer.routes[..i].iter().zip(job.slips());
+        let slipping = (route.as_slice(), job.slips()[i]);
+        let mut agree = others.map(|(other, slip)| least_sum::agree((other, slip), slipping));
+        same(
+            "the routes of the plan agree",
+            agree.all(|agree| agree),
+            true,
+        )?;
     }
     same("sum of the plan", answer.sum, sum)
 }
@@ -178,6 +189,28 @@ fn count_turns_in_answers(job: &Job, counts: &mut Counts) {
             count(counts, &format!("an answer would show: {}", turn.name));
         }
     }
+}
+
+/// How many answers would show each wrong version of P3. Swaps where only one has
+/// slip 0 alter none, and where all slips are equal "every accepted job keeps its
+/// answer".
+fn try_slips_in_answers(job: &Job, counts: &mut Counts) -> Trial {
+    let ranked = tree_by_words::ranked(job);
+    let by = |rules| tree_by_words::search_by(job, TURN_RECORDS, &ranked, rules);
+    let right = by(&P3);
+    for wrong in &WRONG_SLIPS {
+        if by(wrong) != right {
+            count(counts, &format!("an answer would show: {}", wrong.name));
+        }
+    }
+    same(SWAPS_WITH_ONE.name, &by(&SWAPS_WITH_ONE), &right)?;
+    let slips = job.slips();
+    if slips.iter().all(|slip| *slip == slips[0]) {
+        count(counts, "slips: equal");
+        return same("equal slips", by(&ONE_K), right);
+    }
+    count(counts, "slips: unequal");
+    Ok(())
 }
 
 /// Routes under bars against the list of all routes.
@@ -404,7 +437,8 @@ fn try_route_check(job: &Job, routes: &[Vec<u8>], plan: &[u8], counts: &mut Coun
 fn try_meeting_check(job: &Job, routes: &[Vec<u8>], plan: &[u8], counts: &mut Counts) -> Trial {
     let told = check::meeting_check(job, plan);
     let routes: Vec<&[u8]> = routes.iter().map(Vec::as_slice).collect();
-    let collides = holds::some_pattern_collides(&routes, job.k);
+    let slips = job.slips();
+    let collides = holds::some_pattern_collides(&routes, &slips);
     let lawful = check::route_check(job, plan).number == 0;
     count(
         counts,
@@ -416,7 +450,14 @@ fn try_meeting_check(job: &Job, routes: &[Vec<u8>], plan: &[u8], counts: &mut Co
         },
     );
     same("holds", told.number == 22, collides).map_err(|why| format!("{routes:?}: {why}"))?;
-    let wanted = loops::first_meeting(&routes, job.k);
+    let wanted = loops::first_meeting(&routes, &slips);
+    let by = |rules| loops::first_meeting_by(rules, &routes, &slips);
+    for wrong in &WRONG_SLIPS {
+        if by(wrong) != wanted {
+            count(counts, &format!("a check would show: {}", wrong.name));
+        }
+    }
+    same(SWAPS_WITH_ONE.name, by(&SWAPS_WITH_ONE), wanted)?;
     let numbers = (told.number == 22).then_some((
         told.carrier,
         told.other,
@@ -439,17 +480,28 @@ fn try_refusals(random: &mut Random, job: &Job, counts: &mut Counts) -> Trial {
     if random.chance(50) {
         damage::shorten(random, &mut lengths, least);
     }
+    count_wrong_refusals(job, counts);
     try_planner_refusal(job, n, lengths, counts)
         .map_err(|why| format!("N {n}, tables {lengths:?}: {why}"))?;
     let plan = vec![0; least[3] - random.below(2)];
     try_check_refusals(job, &plan)
 }
 
+/// How many refusals would show each wrong version.
+fn count_wrong_refusals(job: &Job, counts: &mut Counts) {
+    let right = refusals::refused(job);
+    for wrong in &WRONG_REFUSALS {
+        if (wrong.refused)(job) != right {
+            count(counts, &format!("a refusal would show: {}", wrong.name));
+        }
+    }
+}
+
 fn try_planner_refusal(job: &Job, n: usize, lengths: [usize; 4], counts: &mut Counts) -> Trial {
     let told = planner::plan_lent(job, n, lengths).told();
     let short = refusals::short_table(job, n, lengths);
     count(counts, sort_of(job, short.is_some()));
-    let wanted = match (refusals::shared(job), short) {
+    let wanted = match (refusals::refused(job), short) {
         (Some((number, i, j)), _) => [number, 0, 0, i, j, 0, 0],
         (None, Some((table, needed))) => [7, 0, 0, 0, 0, table, needed],
         (None, None) => PlanAnswer::from(tree::search(job, n)).told(),
@@ -457,8 +509,19 @@ fn try_planner_refusal(job: &Job, n: usize, lengths: [usize; 4], counts: &mut Co
     same("the planner's refusal", told, wanted)
 }
 
-/// Which ends the job shares, and else whether a table is short.
+/// What is wrong with the carriers' records, else which ends the job shares, and else
+/// whether a table is short.
 fn sort_of(job: &Job, short: bool) -> &'static str {
+    let slips = refusals::with_wrong_slip(job).into_iter().min();
+    let ends = refusals::with_wrong_end(job).into_iter().min();
+    match (slips, ends) {
+        (Some(slip), Some(end)) if slip < end => return "refusals: 5, a slip before an end",
+        (Some(slip), Some(end)) if slip > end => return "refusals: 5, an end before a slip",
+        (Some(_), Some(_)) => return "refusals: 5, slip and end of one carrier",
+        (Some(_), None) => return "refusals: 5, slips alone",
+        (None, Some(_)) => return "refusals: 5, ends alone",
+        (None, None) => {}
+    }
     let starts = refusals::with_one_start(job).into_iter().min();
     let goals = refusals::with_one_goal(job).into_iter().min();
     match (starts, goals) {
@@ -474,7 +537,7 @@ fn sort_of(job: &Job, short: bool) -> &'static str {
 
 fn try_check_refusals(job: &Job, plan: &[u8]) -> Trial {
     let needed = job.carriers.len() * (job.horizon + 1);
-    let wanted = match refusals::shared(job) {
+    let wanted = match refusals::refused(job) {
         Some((number, i, j)) => Some([number, i, j, 0, 0, 0, 0]),
         None => (plan.len() < needed).then_some([7, 0, 0, 0, 0, 0, needed]),
     };

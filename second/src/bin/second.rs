@@ -32,7 +32,7 @@ fn capacity(arguments: &[String]) -> Option<usize> {
     }
 }
 
-/// "The program reads at most 293 bytes from standard input".
+/// "the program reads at most 300 bytes" from standard input.
 fn read_book() -> io::Result<Vec<u8>> {
     let mut book = Vec::new();
     io::stdin().take(MOST_BYTES as u64).read_to_end(&mut book)?;

@@ -11,19 +11,24 @@ type Priced = (usize, Vec<u8>);
 pub fn least_sum(job: &Job) -> Option<usize> {
     let choices: Vec<Vec<Priced>> = (0..job.carriers.len()).map(|i| priced(job, i)).collect();
     let mut least = None;
-    combine(&choices, job.k, &mut Vec::new(), 0, &mut least);
+    combine(&choices, &job.slips(), &mut Vec::new(), 0, &mut least);
     least
 }
 
+/// A route with its carrier's slip.
+pub type Slipping<'a> = (&'a [u8], usize);
+
 /// "A plan is lawful routes for all carriers with no meeting and no swap": for
-/// two of them, whichever is the earlier.
-pub fn agree(a: &[u8], b: &[u8], k: usize) -> bool {
-    let steps = 0..a.len();
-    let meet = steps.clone().any(|s| {
-        let near = steps.clone().filter(|t| s.abs_diff(*t) <= k);
-        near.into_iter().any(|t| a[s] == b[t])
+/// two of them, whichever is the earlier. At a moment m a carrier may be on any of
+/// its cells from m − slip to m: two meet where these have a cell in common.
+pub fn agree((a, slip_a): Slipping, (b, slip_b): Slipping) -> bool {
+    let meet = (0..a.len()).any(|m| {
+        let of_a = &a[m.saturating_sub(slip_a)..=m];
+        let of_b = &b[m.saturating_sub(slip_b)..=m];
+        of_a.iter().any(|cell| of_b.contains(cell))
     });
-    let swap = k == 0 && (1..a.len()).any(|s| a[s] == b[s - 1] && a[s - 1] == b[s]);
+    let none_slips = slip_a + slip_b == 0;
+    let swap = none_slips && (1..a.len()).any(|s| a[s] == b[s - 1] && a[s - 1] == b[s]);
     !meet && !swap
 }
 
@@ -40,8 +45,8 @@ fn priced(job: &Job, i: usize) -> Vec<Priced> {
 /// below the least one found is not followed.
 fn combine<'a>(
     choices: &'a [Vec<Priced>],
-    k: usize,
-    chosen: &mut Vec<&'a [u8]>,
+    slips: &[usize],
+    chosen: &mut Vec<Slipping<'a>>,
     sum: usize,
     least: &mut Option<usize>,
 ) {
@@ -53,9 +58,10 @@ fn combine<'a>(
         if least.is_some_and(|least| sum + cost >= least) {
             return;
         }
-        if chosen.iter().all(|other| agree(other, route, k)) {
-            chosen.push(route);
-            combine(rest, k, chosen, sum + cost, least);
+        let slipping = (route.as_slice(), slips[chosen.len()]);
+        if chosen.iter().all(|other| agree(*other, slipping)) {
+            chosen.push(slipping);
+            combine(rest, slips, chosen, sum + cost, least);
             chosen.pop();
         }
     }

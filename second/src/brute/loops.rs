@@ -1,38 +1,67 @@
-//! Rule 5 by its words: loops over step, distance and carriers, left at the
-//! first meeting or swap.
+//! Rule 5 as P3 has it, by its words: loops over the smaller step and the distance,
+//! left at the first meeting or swap. The distance runs as far as the routes do:
+//! only the sentence about u − t says who meets.
 
-/// (i, j, t, D, whether it is a swap).
+use crate::brute::slips::{P3, SlipRules};
+
+/// (earlier carrier, other, e, distance, whether it is a swap).
 pub type Told = (usize, usize, usize, usize, bool);
 
-/// The first meeting or swap in the order of rule 5.
-pub fn first_meeting(routes: &[&[u8]], k: usize) -> Option<Told> {
-    let steps = routes[0].len();
-    (0..steps).find_map(|t| meeting_at(routes, k, t).or_else(|| swap_at(routes, k, t)))
+/// The first meeting or swap in P3's order, of carriers with these slips.
+pub fn first_meeting(routes: &[&[u8]], slips: &[usize]) -> Option<Told> {
+    first_meeting_by(&P3, routes, slips)
 }
 
-fn meeting_at(routes: &[&[u8]], k: usize, t: usize) -> Option<Told> {
-    for distance in 0..=k {
-        for i in 0..routes.len() {
-            for j in 0..routes.len() {
-                let ordered = if distance == 0 { i < j } else { i != j };
-                if ordered && routes[j].get(t + distance) == Some(&routes[i][t]) {
-                    return Some((i, j, t, distance, false));
-                }
+/// The same by these rules, whatever they are.
+pub fn first_meeting_by(rules: &SlipRules, routes: &[&[u8]], slips: &[usize]) -> Option<Told> {
+    let steps = routes[0].len();
+    for e in 0..steps {
+        for distance in 0..steps - e {
+            if let Some((earlier, other)) = pair_at(rules, routes, slips, e, distance) {
+                return Some((earlier, other, e, distance, false));
             }
+        }
+        if let Some((i, j)) = swap_at(rules, routes, slips, e) {
+            return Some((i, j, e, 0, true));
         }
     }
     None
 }
 
-/// "among swaps least i, then least j, with i < j".
-fn swap_at(routes: &[&[u8]], k: usize, t: usize) -> Option<Told> {
-    if k > 0 || t + 1 == routes[0].len() {
-        return None;
-    }
+/// The first earlier and other that meet with this smaller step and this distance.
+fn pair_at(
+    rules: &SlipRules,
+    routes: &[&[u8]],
+    slips: &[usize],
+    e: usize,
+    distance: usize,
+) -> Option<(usize, usize)> {
+    let mut pairs = Vec::new();
     for i in 0..routes.len() {
         for j in i + 1..routes.len() {
-            if routes[i][t] == routes[j][t + 1] && routes[i][t + 1] == routes[j][t] {
-                return Some((i, j, t, 0, true));
+            for (t, u) in [(e, e + distance), (e + distance, e)] {
+                if routes[i][t] == routes[j][u] && (rules.meet)(slips, (i, t), (j, u)) {
+                    pairs.push(if t <= u { (i, j) } else { (j, i) });
+                }
+            }
+        }
+    }
+    let first = |pair: &(usize, usize)| (rules.rank)(pair.0, pair.1);
+    pairs.into_iter().min_by_key(first)
+}
+
+/// "among swaps least i, then least j, with i < j".
+fn swap_at(
+    rules: &SlipRules,
+    routes: &[&[u8]],
+    slips: &[usize],
+    t: usize,
+) -> Option<(usize, usize)> {
+    for i in 0..routes.len() {
+        for j in i + 1..routes.len() {
+            let (one, two) = (routes[i].get(t..t + 2)?, routes[j].get(t..t + 2)?);
+            if [one[0], one[1]] == [two[1], two[0]] && (rules.swap)(slips, i, j) {
+                return Some((i, j));
             }
         }
     }

@@ -6,6 +6,8 @@ pub mod holds;
 pub mod least_sum;
 pub mod loops;
 pub mod refusals;
+pub mod slips;
 pub mod tree_by_words;
 pub mod walks;
+pub mod wrong_slips;
 pub mod wrong_turns;

@@ -1,7 +1,31 @@
-//! Refusals 6, 16 and 7 by their words: all pairs of carriers are listed, and
-//! each table is asked by its own sentence.
+//! Refusals 5, 6, 16 and 7 by their words: the carriers with each fault and all
+//! pairs of carriers are listed, and each table is asked by its own sentence.
 
 use crate::job::{Carrier, Job};
+
+/// The number with the carrier and the other that are told.
+pub type Told = (usize, usize, usize);
+
+/// All carriers with "a start or goal ... outside the grid or closed".
+pub fn with_wrong_end(job: &Job) -> Vec<usize> {
+    let outside_or_closed = |cell: u8| {
+        let cell = usize::from(cell);
+        cell >= job.width * job.height || job.hall[cell] == b'#'
+    };
+    with_fault(job, |carrier| {
+        outside_or_closed(carrier.start) || outside_or_closed(carrier.goal)
+    })
+}
+
+/// All carriers with "a slip above 4".
+pub fn with_wrong_slip(job: &Job) -> Vec<usize> {
+    with_fault(job, |carrier| ![0, 1, 2, 3, 4].contains(&carrier.slip))
+}
+
+fn with_fault(job: &Job, fault: impl Fn(&Carrier) -> bool) -> Vec<usize> {
+    let carriers = 0..job.carriers.len();
+    carriers.filter(|&i| fault(&job.carriers[i])).collect()
+}
 
 /// All pairs i < j of "two carriers with one start".
 pub fn with_one_start(job: &Job) -> Vec<(usize, usize)> {
@@ -26,8 +50,24 @@ fn with_one(job: &Job, end: fn(&Carrier) -> u8) -> Vec<(usize, usize)> {
     pairs
 }
 
+/// What is refused of a job that passes checks 1 to 4: 5 with the "first such
+/// carrier" of either list, or what is shared.
+pub fn refused(job: &Job) -> Option<Told> {
+    let faults = [with_wrong_end(job), with_wrong_slip(job)].concat();
+    match faults.into_iter().min() {
+        Some(carrier) => Some((5, carrier, 0)),
+        None => shared(job),
+    }
+}
+
+/// 5 as far as it is said of starts and goals.
+pub fn wrong_end(job: &Job) -> Option<Told> {
+    let first = with_wrong_end(job).into_iter().min();
+    first.map(|carrier| (5, carrier, 0))
+}
+
 /// The number with "least i, then least j": 6, or 16 "directly after 6".
-pub fn shared(job: &Job) -> Option<(usize, usize, usize)> {
+pub fn shared(job: &Job) -> Option<Told> {
     if let Some((i, j)) = with_one_start(job).into_iter().min() {
         return Some((6, i, j));
     }

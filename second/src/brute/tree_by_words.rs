@@ -3,6 +3,7 @@
 //! up its ancestors, and the open node to be taken by looking at all nodes.
 
 use crate::bar::Bar;
+use crate::brute::slips::{P3, SlipRules};
 use crate::brute::{loops, walks};
 use crate::job::Job;
 
@@ -21,13 +22,18 @@ pub type Ranked = Vec<Vec<Vec<u8>>>;
 
 /// The tree of a job that passed checks 1 to 6 and 16, with N from 1.
 pub fn search(job: &Job, capacity: usize) -> Told {
-    let carriers = job.carriers.iter();
-    let ranked: Ranked = carriers.map(|c| walks::ranked_routes(job, *c)).collect();
-    search_among(job, capacity, &ranked)
+    search_by(job, capacity, &ranked(job), &P3)
 }
 
-/// The same with the routes in this order, whatever it is.
-pub fn search_among(job: &Job, capacity: usize, ranked: &Ranked) -> Told {
+/// The job's routes in the order of rule 2 and P2.
+pub fn ranked(job: &Job) -> Ranked {
+    let carriers = job.carriers.iter();
+    carriers.map(|c| walks::ranked_routes(job, *c)).collect()
+}
+
+/// The same tree with the routes in this order and with these rules about slips,
+/// whatever they are.
+pub fn search_by(job: &Job, capacity: usize, ranked: &Ranked, rules: &SlipRules) -> Told {
     if ranked.iter().any(Vec::is_empty) {
         return (8, 0, 0, vec![]);
     }
@@ -39,7 +45,7 @@ pub fn search_among(job: &Job, capacity: usize, ranked: &Ranked) -> Told {
     }];
     while let Some(number) = taken(job, &nodes) {
         nodes[number].open = false;
-        let Some(bars) = bars_for(job, &nodes[number].routes) else {
+        let Some(bars) = bars_for(job, &nodes[number].routes, rules) else {
             let routes = nodes[number].routes.clone();
             return (0, sum(job, &nodes[number]), nodes.len(), routes);
         };
@@ -57,24 +63,29 @@ pub fn search_among(job: &Job, capacity: usize, ranked: &Ranked) -> Told {
 }
 
 /// Rules 5 and 6: the bars of child one and child two, each with its carrier.
-fn bars_for(job: &Job, routes: &[Vec<u8>]) -> Option<[(usize, Bar); 2]> {
+fn bars_for(job: &Job, routes: &[Vec<u8>], rules: &SlipRules) -> Option<[(usize, Bar); 2]> {
     let lent: Vec<&[u8]> = routes.iter().map(Vec::as_slice).collect();
-    let (i, j, t, _, swap) = loops::first_meeting(&lent, job.k)?;
+    let slips = job.slips();
+    let (earlier, other, e, _, swap) = loops::first_meeting_by(rules, &lent, &slips)?;
     let crossing = |carrier: usize| Bar::Crossing {
-        from: routes[carrier][t],
-        to: routes[carrier][t + 1],
-        step: t,
+        from: routes[carrier][e],
+        to: routes[carrier][e + 1],
+        step: e,
     };
-    let standing = Bar::Standing {
-        cell: routes[i][t],
-        first: t,
-        last: t + job.k,
+    let standing = |carrier: usize, met: usize| Bar::Standing {
+        cell: routes[earlier][e],
+        first: e,
+        last: e + (rules.bar_length)(&slips, carrier, met),
     };
-    Some(if swap {
-        [(i, crossing(i)), (j, crossing(j))]
-    } else {
-        [(i, standing), (j, standing)]
-    })
+    let children = (rules.children)(earlier, other);
+    Some(children.map(|(carrier, met)| {
+        let bar = if swap {
+            crossing(carrier)
+        } else {
+            standing(carrier, met)
+        };
+        (carrier, bar)
+    }))
 }
 
 /// Rule 7: the child with this bar, if the barred carrier has a route.

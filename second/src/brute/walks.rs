@@ -106,19 +106,21 @@ mod tests {
 
     #[test]
     fn a_corner_has_three_ways_on() {
-        let carrier = Carrier { start: 0, goal: 4 };
+        let carrier = |goal| Carrier {
+            start: 0,
+            goal,
+            slip: 0,
+        };
         let job = Job {
             width: 3,
             height: 3,
             hall: b"....#....".to_vec(),
-            carriers: vec![carrier],
-            k: 0,
+            carriers: vec![carrier(4)],
             horizon: 2,
         };
         assert_eq!(walks(&job, 0, 1), [[0, 0], [0, 3], [0, 1]]);
-        assert_eq!(routes(&job, carrier), Vec::<Vec<u8>>::new());
-        assert_eq!(first_wrong_step(&job, carrier, &[0, 1, 4]), Some(2));
-        let beside = Carrier { start: 0, goal: 2 };
-        assert_eq!(routes(&job, beside), [[0, 1, 2]]);
+        assert_eq!(routes(&job, carrier(4)), Vec::<Vec<u8>>::new());
+        assert_eq!(first_wrong_step(&job, carrier(4), &[0, 1, 4]), Some(2));
+        assert_eq!(routes(&job, carrier(2)), [[0, 1, 2]]);
     }
 }

@@ -3,6 +3,7 @@
 //! jobs show it often is it worth anything that no job differs.
 
 use crate::bar::Bar;
+use crate::brute::slips::P3;
 use crate::brute::tree_by_words::{self, Ranked, Told};
 use crate::brute::walks::{self, Rank};
 use crate::job::{Carrier, Job};
@@ -69,7 +70,7 @@ impl WrongTurn {
         let ranked: Ranked = carriers
             .map(|&carrier| walks::routes_by(job, carrier, self.rank))
             .collect();
-        tree_by_words::search_among(job, n, &ranked)
+        tree_by_words::search_by(job, n, &ranked, &P3)
     }
 }
 
@@ -93,24 +94,26 @@ mod tests {
         shown
     }
 
-    fn jobs_with(k_fits: fn(usize) -> bool) -> Vec<Job> {
+    /// Of so many jobs those whose greatest slip fits.
+    fn jobs_with(many: usize, fits: fn(usize) -> bool) -> Vec<Job> {
         let mut random = Random::new(31);
-        let jobs = (0..600).map(|_| generate::small_waiting(&mut random));
-        jobs.filter(|job| k_fits(job.k)).collect()
+        let jobs = (0..many).map(|_| generate::small_waiting(&mut random));
+        let greatest = |job: &Job| job.slips().into_iter().max();
+        jobs.filter(|job| greatest(job).is_some_and(fits)).collect()
     }
 
     #[test]
-    fn jobs_with_delay_show_every_turn() {
-        let jobs = jobs_with(|k| k > 0);
+    fn jobs_with_slips_show_every_turn() {
+        let jobs = jobs_with(600, |greatest| greatest > 0);
         let shown = shown_by(&jobs);
         assert!(shown.iter().all(|shown| *shown > 10), "{shown:?}");
         assert!(5 * shown[0] > jobs.len(), "{shown:?} of {}", jobs.len());
     }
 
-    /// Without delay too, where a carrier seldom has two steps to lose.
+    /// Without slips too, where a carrier seldom has two steps to lose.
     #[test]
-    fn jobs_without_delay_show_every_turn() {
-        let jobs = jobs_with(|k| k == 0);
+    fn jobs_without_slips_show_every_turn() {
+        let jobs = jobs_with(1800, |greatest| greatest == 0);
         let shown = shown_by(&jobs);
         assert!(shown.iter().all(|shown| *shown > 1), "{shown:?}");
         assert!(10 * shown[0] > jobs.len(), "{shown:?} of {}", jobs.len());
@@ -119,7 +122,7 @@ mod tests {
     /// Among them some in which crossings are barred, at the root at least.
     #[test]
     fn jobs_with_swaps_show_the_old_rule() {
-        let mut jobs = jobs_with(|k| k == 0);
+        let mut jobs = jobs_with(1800, |greatest| greatest == 0);
         jobs.retain(swaps_at_the_root);
         let shown = shown_by(&jobs);
         assert!(shown[0] > 5, "{shown:?} of {}", jobs.len());
@@ -132,6 +135,6 @@ mod tests {
             return false;
         };
         let routes: Vec<&[u8]> = routes.iter().map(Vec::as_slice).collect();
-        loops::first_meeting(&routes, job.k).is_some_and(|(.., swap)| swap)
+        loops::first_meeting(&routes, &job.slips()).is_some_and(|(.., swap)| swap)
     }
 }

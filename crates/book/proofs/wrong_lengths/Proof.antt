@@ -3,7 +3,7 @@
 use native.Mathlib.Omega.{arith}
 use mathlib.Core.Path.{sym, ap, _∙_}
 use borrow.Author.Needs.{needs}
-use Rattle.book.specs.Book.{hallUnderTwo, carriersOdd, limitsNotTwo}
+use Rattle.book.specs.Book.{hallUnderTwo, carriersNotThrees, limitsNotOne}
 use Rattle.book.proofs.Answers.{lengths-first, lengths-second, lengths-third}
 use Rattle.book.proofs.Bodies.{passed-consecutive, hall-part, carriers-part, limits-part}
 use Rattle.book.proofs.wrong_lengths.Statement.{statement}
@@ -63,7 +63,7 @@ returns-2 c =
     let s = passed-consecutive book (c .before .before .before .before .before .before .before .before .before .pre .1) in
     lengths-second book
     (ap hallUnderTwo (sym (hall-part book s (c .before .before .before .before .before .before .before .body-end .result) (c .before .before .before .before .before .before .before .body-end .ensures))) ∙ sym (c .before .before .before .before .hall-body-wrong .ensures) ∙ c .before .before .before .if1 .left)
-    (ap carriersOdd (sym (carriers-part book s (c .before .before .before .before .before .before .before .body-end .result) (c .before .before .before .before .before .before .body-end2 .result) (c .before .before .before .before .before .before .before .body-end .ensures) (c .before .before .before .before .before .before .body-end2 .ensures))) ∙ sym (c .before .carriers-body-wrong .ensures) ∙ c .if2 .taken)
+    (ap carriersNotThrees (sym (carriers-part book s (c .before .before .before .before .before .before .before .body-end .result) (c .before .before .before .before .before .before .body-end2 .result) (c .before .before .before .before .before .before .before .body-end .ensures) (c .before .before .before .before .before .before .body-end2 .ensures))) ∙ sym (c .before .carriers-body-wrong .ensures) ∙ c .if2 .taken)
 
 sub-limits-body-wrong : tie.Need-sub-limits-body-wrong
 sub-limits-body-wrong c =
@@ -86,10 +86,10 @@ returns-3 c =
     let book = c .before .before .before .before .before .before .before .before .before .before .before .args .book .now in
     let s = passed-consecutive book (c .before .before .before .before .before .before .before .before .before .before .before .pre .1) in
     c .limits-body-wrong .ensures
-    ∙ ap limitsNotTwo (limits-part book s (c .before .before .before .before .before .before .before .before .body-end2 .result) (c .before .before .before .before .before .before .before .before .body-end2 .ensures))
+    ∙ ap limitsNotOne (limits-part book s (c .before .before .before .before .before .before .before .before .body-end2 .result) (c .before .before .before .before .before .before .before .before .body-end2 .ensures))
     ∙ lengths-third book
     (ap hallUnderTwo (sym (hall-part book s (c .before .before .before .before .before .before .before .before .before .body-end .result) (c .before .before .before .before .before .before .before .before .before .body-end .ensures))) ∙ sym (c .before .before .before .before .before .before .hall-body-wrong .ensures) ∙ c .before .before .before .before .before .if1 .left)
-    (ap carriersOdd (sym (carriers-part book s (c .before .before .before .before .before .before .before .before .before .body-end .result) (c .before .before .before .before .before .before .before .before .body-end2 .result) (c .before .before .before .before .before .before .before .before .before .body-end .ensures) (c .before .before .before .before .before .before .before .before .body-end2 .ensures))) ∙ sym (c .before .before .before .carriers-body-wrong .ensures) ∙ c .before .before .if2 .left)
+    (ap carriersNotThrees (sym (carriers-part book s (c .before .before .before .before .before .before .before .before .before .body-end .result) (c .before .before .before .before .before .before .before .before .body-end2 .result) (c .before .before .before .before .before .before .before .before .before .body-end .ensures) (c .before .before .before .before .before .before .before .before .body-end2 .ensures))) ∙ sym (c .before .before .before .carriers-body-wrong .ensures) ∙ c .before .before .if2 .left)
 
 pub wrong-lengths-spec : {M : Type 1} → statement M
 wrong-lengths-spec =

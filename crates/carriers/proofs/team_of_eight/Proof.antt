@@ -1,4 +1,4 @@
--- `team_of_eight` meets its contract: the two arrays are those it was given. Assumes nothing.
+-- `team_of_eight` meets its contract: the three arrays are those it was given. Assumes nothing.
 use Rattle.carriers.proofs.team_of_eight.Statement.{statement}
 use Rattle.carriers.proofs.team_of_eight.Tie as tie
 

@@ -14,14 +14,14 @@ needed-length-requires c κs = search needs
 returns : tie.Need-returns
 returns c =
     let a = c .before .before .before .before .args in
-    let job = jobOf (a .width) (a .height) (a .hall .now) (a .team) 0 (a .h) in
+    let job = jobOf (a .width) (a .height) (a .hall .now) (a .team) (a .h) in
     let n = c .before .needed-length in
     plan-short job (a .plan .now) (n .result) (n .ensures) (c .if1 .taken)
 
 first-wrong-place-requires : tie.Need-first-wrong-place-requires
 first-wrong-place-requires c κs =
     let a = c .before .before .before .before .args in
-    let job = jobOf (a .width) (a .height) (a .hall .now) (a .team) 0 (a .h) in
+    let job = jobOf (a .width) (a .height) (a .hall .now) (a .team) (a .h) in
     let n = c .before .needed-length in
     record { limits = c .before .before .before .before .pre; whole = plan-whole job (a .plan .now) (n .result) (n .ensures) (c .if1 .left) }
 
@@ -36,7 +36,7 @@ returns-2 c =
     let a = c .before .before .before .before .before .before .before .args in
     let f = c .before .before .first-wrong-place in
     let n = c .before .before .before .before .needed-length in
-    let job = jobOf (a .width) (a .height) (a .hall .now) (a .team) 0 (a .h) in
+    let job = jobOf (a .width) (a .height) (a .hall .now) (a .team) (a .h) in
     let first = firstWrongPlace job (planCell job (a .plan .now)) in
     none-lawful first (found-nowhere (f .result) first (f .ensures) (c .enum-told .given .1)) ∙ plan-walked job (a .plan .now) (n .result) (n .ensures) (c .before .before .before .if1 .left)
 
@@ -46,7 +46,7 @@ returns-3 c =
     let f = c .before .before .before .first-wrong-place in
     let n = c .before .before .before .before .before .needed-length in
     let p = c .before .found in
-    let job = jobOf (a .width) (a .height) (a .hall .now) (a .team) 0 (a .h) in
+    let job = jobOf (a .width) (a .height) (a .hall .now) (a .team) (a .h) in
     let first = firstWrongPlace job (planCell job (a .plan .now)) in
     some-wrong first (p .given .0 .0) (p .given .0 .1 .0) (found-place (f .result) first (f .ensures) (p .given .0 .0) (p .given .0 .1 .0) (p .given .1)) ∙ plan-walked job (a .plan .now) (n .result) (n .ensures) (c .before .before .before .before .if1 .left)
 

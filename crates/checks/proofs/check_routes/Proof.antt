@@ -2,7 +2,7 @@
 use mathlib.Core.Path.{_∙_}
 use borrow.Author.Needs.{needs}
 use Rattle.job.specs.Team.{jobOf}
-use Rattle.checks.proofs.WalkCode.{accepted-limits, routes-accepted, routes-refused, routes-any-delay}
+use Rattle.checks.proofs.WalkCode.{accepted-limits, routes-accepted, routes-refused}
 use Rattle.checks.proofs.check_routes.Statement.{statement}
 use Rattle.checks.proofs.check_routes.Tie as tie
 
@@ -16,22 +16,21 @@ check-lawful-requires : tie.Need-check-lawful-requires
 check-lawful-requires c κs =
     let a = c .before .before .before .before .before .args in
     let j = c .before .before .judge-job in
-    let job = jobOf (a .width) (a .height) (a .hall .now) (a .team) (a .k) (a .h) in
-    let l = accepted-limits job (j .result) (j .ensures) (c .enum-told .given .1) .0 in
-    record { widthLeast = l .widthLeast; widthMost = l .widthMost; heightMost = l .heightMost; countMost = l .countMost; horizonMost = l .horizonMost }
+    let job = jobOf (a .width) (a .height) (a .hall .now) (a .team) (a .h) in
+    accepted-limits job (j .result) (j .ensures) (c .enum-told .given .1)
 
 returns : tie.Need-returns
 returns c =
     let a = c .before .before .before .before .before .before .args in
     let j = c .before .before .before .judge-job in
-    let job = jobOf (a .width) (a .height) (a .hall .now) (a .team) (a .k) (a .h) in
-    c .check-lawful .ensures ∙ routes-any-delay (a .width) (a .height) (a .hall .now) (a .team) (a .k) (a .h) (a .plan .now) ∙ routes-accepted job (a .plan .now) (j .result) (j .ensures) (c .before .enum-told .given .1)
+    let job = jobOf (a .width) (a .height) (a .hall .now) (a .team) (a .h) in
+    c .check-lawful .ensures ∙ routes-accepted job (a .plan .now) (j .result) (j .ensures) (c .before .enum-told .given .1)
 
 returns-2 : tie.Need-returns-2
 returns-2 c =
     let a = c .before .before .before .before .args in
     let j = c .before .judge-job in
-    let job = jobOf (a .width) (a .height) (a .hall .now) (a .team) (a .k) (a .h) in
+    let job = jobOf (a .width) (a .height) (a .hall .now) (a .team) (a .h) in
     routes-refused job (a .plan .now) (j .result) (j .ensures) (c .match .keys2)
 
 pub check-routes-spec : {M : Type 1} → statement M

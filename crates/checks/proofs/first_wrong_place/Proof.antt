@@ -16,7 +16,7 @@ use Rattle.checks.proofs.first_wrong_place.Tie as tie
 abbrev Inv-loop : tie.InvT-loop
 Inv-loop hall width height team h plan count i₀ i =
     (i ≤ team .count)
-    × (firstWrongPlace (jobOf width height hall team 0 h) (planCell (jobOf width height hall team 0 h) plan) ≡ firstOf (wrongPlace (jobOf width height hall team 0 h) plan) (each (placesOf h) (range i (team .count - i))))
+    × (firstWrongPlace (jobOf width height hall team h) (planCell (jobOf width height hall team h) plan) ≡ firstOf (wrongPlace (jobOf width height hall team h) plan) (each (placesOf h) (range i (team .count - i))))
 
 abbrev μ-loop : tie.MeasureT-loop
 μ-loop hall width height team h plan count i₀ i = team .count - i
@@ -24,7 +24,7 @@ abbrev μ-loop : tie.MeasureT-loop
 loop-holds : tie.Need-loop-holds Inv-loop μ-loop
 loop-holds c =
     let a = c .before .before .args in
-    let job = jobOf (a .width) (a .height) (a .hall .now) (a .team) 0 (a .h) in
+    let job = jobOf (a .width) (a .height) (a .hall .now) (a .team) (a .h) in
     (omega arith, places-from job (a .plan .now))
 
 first-wrong-step-requires : tie.Need-first-wrong-step-requires Inv-loop μ-loop
@@ -43,7 +43,7 @@ returns c =
     let l = c .before .before .before .before .before .loop in
     let s = c .before .before .before .first-wrong-step in
     let p = c .before .found in
-    let job = jobOf (a .width) (a .height) (a .hall .now) (a .team) 0 (a .h) in
+    let job = jobOf (a .width) (a .height) (a .hall .now) (a .team) (a .h) in
     let here = firstOf (wrongPlace job (a .plan .now)) (placesOf (a .h) (l .i)) in
     sym (l .inv .1 ∙ first-each-found (wrongPlace job (a .plan .now)) (placesOf (a .h)) (l .i) (a .team .count) (omega arith) (placeOf (p .given .0 .0) (p .given .0 .1 .0)) (found-place (s .result) here (s .ensures) (p .given .0 .0) (p .given .0 .1 .0) (p .given .1)))
 
@@ -58,7 +58,7 @@ loop-again c =
     let a = c .before .before .before .before .before .before .before .args in
     let l = c .before .before .before .before .loop in
     let s = c .before .before .first-wrong-step in
-    let job = jobOf (a .width) (a .height) (a .hall .now) (a .team) 0 (a .h) in
+    let job = jobOf (a .width) (a .height) (a .hall .now) (a .team) (a .h) in
     let here = firstOf (wrongPlace job (a .plan .now)) (placesOf (a .h) (l .i)) in
     (omega arith, l .inv .1 ∙ first-each-passed (wrongPlace job (a .plan .now)) (placesOf (a .h)) (l .i) (a .team .count) (omega arith) (found-nowhere (s .result) here (s .ensures) (c .enum-told .given .1)))
 
@@ -67,7 +67,7 @@ unfolding placeFound
 returns-2 c =
     let a = c .before .before .before .before .args in
     let l = c .before .loop in
-    let job = jobOf (a .width) (a .height) (a .hall .now) (a .team) 0 (a .h) in
+    let job = jobOf (a .width) (a .height) (a .hall .now) (a .team) (a .h) in
     sym (l .inv .1 ∙ first-each-done (wrongPlace job (a .plan .now)) (placesOf (a .h)) (l .i) (a .team .count) (omega arith))
 
 pub first-wrong-place-spec : {M : Type 1} → statement M

@@ -13,7 +13,7 @@ use Rattle.checks.proofs.first_wrong_step.Tie as tie
 
 abbrev Inv-loop : tie.InvT-loop
 Inv-loop hall width height team h plan i t₀ t-end t =
-    (t ≤ h + 1) × (firstOf (wrongPlace (jobOf width height hall team 0 h) plan) (placesOf h i) ≡ firstOf (wrongPlace (jobOf width height hall team 0 h) plan) (map (placeOf i) (range t (h + 1 - t))))
+    (t ≤ h + 1) × (firstOf (wrongPlace (jobOf width height hall team h) plan) (placesOf h i) ≡ firstOf (wrongPlace (jobOf width height hall team h) plan) (map (placeOf i) (range t (h + 1 - t))))
 
 abbrev μ-loop : tie.MeasureT-loop
 μ-loop hall width height team h plan i t₀ t-end t = h + 1 - t
@@ -24,7 +24,7 @@ add-t-end c = omega arith
 loop-holds : tie.Need-loop-holds Inv-loop μ-loop
 loop-holds c =
     let a = c .before .before .args in
-    let job = jobOf (a .width) (a .height) (a .hall .now) (a .team) 0 (a .h) in
+    let job = jobOf (a .width) (a .height) (a .hall .now) (a .team) (a .h) in
     (omega arith, ap (firstOf (wrongPlace job (a .plan .now))) (steps-from (a .h) (a .i)))
 
 wrong-at-requires : tie.Need-wrong-at-requires Inv-loop μ-loop
@@ -35,7 +35,7 @@ unfolding placeFound wrongPlace
 returns c =
     let a = c .before .before .before .before .before .before .args in
     let l = c .before .before .before .loop in
-    let job = jobOf (a .width) (a .height) (a .hall .now) (a .team) 0 (a .h) in
+    let job = jobOf (a .width) (a .height) (a .hall .now) (a .team) (a .h) in
     sym (l .inv .1 ∙ first-map-found (wrongPlace job (a .plan .now)) (placeOf (a .i)) (l .t) (a .h + 1) (omega arith) (sym (c .before .wrong-at .ensures) ∙ c .if1 .taken))
 
 add-t : tie.Need-add-t Inv-loop μ-loop
@@ -49,7 +49,7 @@ unfolding wrongPlace
 loop-again c =
     let a = c .before .before .before .before .before .before .args in
     let l = c .before .before .before .loop in
-    let job = jobOf (a .width) (a .height) (a .hall .now) (a .team) 0 (a .h) in
+    let job = jobOf (a .width) (a .height) (a .hall .now) (a .team) (a .h) in
     (omega arith, l .inv .1 ∙ first-map-passed (wrongPlace job (a .plan .now)) (placeOf (a .i)) (l .t) (a .h + 1) (omega arith) (sym (c .before .wrong-at .ensures) ∙ c .if1 .left))
 
 returns-2 : tie.Need-returns-2 Inv-loop μ-loop
@@ -57,7 +57,7 @@ unfolding placeFound
 returns-2 c =
     let a = c .before .before .before .before .args in
     let l = c .before .loop in
-    let job = jobOf (a .width) (a .height) (a .hall .now) (a .team) 0 (a .h) in
+    let job = jobOf (a .width) (a .height) (a .hall .now) (a .team) (a .h) in
     sym (l .inv .1 ∙ first-map-done (wrongPlace job (a .plan .now)) (placeOf (a .i)) (l .t) (a .h + 1) (omega arith))
 
 pub first-wrong-step-spec : {M : Type 1} → statement M

@@ -1,4 +1,4 @@
--- `clashes::distances` meets its contract: of k and what is left of the horizon the lesser is counted from 0. Assumes nothing.
+-- `clashes::distances` meets its contract: of the greatest slip and what is left of the horizon the lesser is counted from 0. Assumes nothing.
 use native.Mathlib.Omega.{arith}
 use Rattle.clashes.proofs.distances.Statement.{statement}
 use Rattle.clashes.proofs.distances.Tie as tie

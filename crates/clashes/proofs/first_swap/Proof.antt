@@ -3,61 +3,55 @@
 use Prim.Native.Nat.{_+_, _-_, _≤_, _<_}
 use mathlib.Core.Path.{_≡_, refl}
 use native.Mathlib.Omega.{arith}
-use Rattle.clashes.specs.Find.{cellIn}
-use Rattle.clashes.specs.declared.Clash.the-variants.{Clear, Swap}
+use Rattle.clashes.specs.Find.{inPlan}
+use Rattle.clashes.specs.declared.Clash.the-variants.{Clear}
 use Rattle.clashes.proofs.Compared.{whole-within}
-use Rattle.clashes.proofs.Swaps.{SwapsFrom, swaps-start, swaps-above, swaps-next-second, swaps-next-first, swaps-found, swaps-end, swaps-past, swaps-slipping, swaps-slipless}
+use Rattle.clashes.proofs.Swaps.{SwapsFrom, swaps-start, swaps-above, swaps-next-second, swaps-next-first, swaps-found, swaps-end, swaps-past}
 use Rattle.clashes.proofs.first_swap.Statement.{statement}
 use Rattle.clashes.proofs.first_swap.Tie as tie
 
 abbrev Inv-loop : tie.InvT-loop
-Inv-loop plan count k h t found₀ i j₀ found j = (found ≡ Clear) × (i < j) × (j ≤ count) × SwapsFrom (cellIn plan h) (λ _. 0) h count t i j
+Inv-loop plan slips count h t found₀ i j₀ found j = (found ≡ Clear) × (i < j) × (j ≤ count) × SwapsFrom (inPlan plan slips h) count t i j
 
 abbrev μ-loop : tie.MeasureT-loop
-μ-loop plan count k h t found₀ i j₀ found j = count - j
+μ-loop plan slips count h t found₀ i j₀ found j = count - j
 
 abbrev Inv-search : tie.InvT-search
-Inv-search plan count k h t found₀ i₀ found i = (found ≡ Clear) × (i ≤ count) × SwapsFrom (cellIn plan h) (λ _. 0) h count t i 0
+Inv-search plan slips count h t found₀ i₀ found i = (found ≡ Clear) × (i ≤ count) × SwapsFrom (inPlan plan slips h) count t i 0
 
 abbrev μ-search : tie.MeasureT-search
-μ-search plan count k h t found₀ i₀ found i = count - i
+μ-search plan slips count h t found₀ i₀ found i = count - i
 
 returns : tie.Need-returns Inv-loop μ-loop Inv-search μ-search
 returns c =
     let a = c .before .before .args in
-    let at = cellIn (a .plan .now) (a .h) in
-    swaps-slipping at (a .k) (a .h) (a .count) (a .t) (c .if1 .taken)
-
-returns-2 : tie.Need-returns-2 Inv-loop μ-loop Inv-search μ-search
-returns-2 c =
-    let a = c .before .before .before .args in
-    let at = cellIn (a .plan .now) (a .h) in
-    swaps-past at (λ _. a .k) (a .h) (a .count) (a .t) (c .if2 .taken)
+    let v = inPlan (a .plan .now) (a .slips) (a .h) in
+    swaps-past v (a .count) (a .t) (c .if1 .taken)
 
 search-holds : tie.Need-search-holds Inv-loop μ-loop Inv-search μ-search
 search-holds c =
-    let a = c .before .before .before .args in
-    let at = cellIn (a .plan .now) (a .h) in
-    (refl, omega arith, swaps-start at (λ _. 0) (a .h) (a .count) (a .t))
+    let a = c .before .before .args in
+    let v = inPlan (a .plan .now) (a .slips) (a .h) in
+    (refl, omega arith, swaps-start v (a .count) (a .t))
 
 add-j : tie.Need-add-j Inv-loop μ-loop Inv-search μ-search
 add-j c = omega arith
 
 loop-holds : tie.Need-loop-holds Inv-loop μ-loop Inv-search μ-search
 loop-holds c =
-    let a = c .before .before .before .before .before .args in
+    let a = c .before .before .before .before .args in
     let first = c .before .search in
-    let at = cellIn (a .plan .now) (a .h) in
-    (first .inv .0, omega arith, omega arith, swaps-above at (λ _. 0) (a .h) (a .count) (a .t) (first .i) (first .inv .2))
+    let v = inPlan (a .plan .now) (a .slips) (a .h) in
+    (first .inv .0, omega arith, omega arith, swaps-above v (a .count) (a .t) (first .i) (first .inv .2))
 
 swap-requires : tie.Need-swap-requires Inv-loop μ-loop Inv-search μ-search
 swap-requires c κs =
-    let a = c .before .before .before .before .before .before .before .args in
+    let a = c .before .before .before .before .before .before .args in
     let first = c .before .before .before .search in
     let second = c .before .loop in
-    let whole = c .before .before .before .before .before .before .before .pre in
-    let within = whole-within (a .plan .now) (a .count) (a .k) (a .h) whole in
-    (second .inv .1, within (first .i) (a .t + 1) (omega arith) (omega arith), within (second .j) (a .t + 1) (omega arith) (omega arith))
+    let whole = c .before .before .before .before .before .before .pre in
+    let within = whole-within (a .plan .now) (a .slips) (a .count) (a .h) whole in
+    (second .inv .1, omega (arith, whole .few), within (first .i) (a .t + 1) (omega arith) (omega arith), within (second .j) (a .t + 1) (omega arith) (omega arith))
 
 add-j-2 : tie.Need-add-j-2 Inv-loop μ-loop Inv-search μ-search
 add-j-2 c = omega arith
@@ -67,12 +61,12 @@ loop-less c = omega arith
 
 loop-again : tie.Need-loop-again Inv-loop μ-loop Inv-search μ-search
 loop-again c =
-    let a = c .before .before .before .before .before .before .before .before .before .args in
+    let a = c .before .before .before .before .before .before .before .before .args in
     let first = c .before .before .before .before .before .search in
     let second = c .before .before .before .loop in
     let swapped = c .before .swap in
-    let at = cellIn (a .plan .now) (a .h) in
-    (second .inv .0, omega arith, omega arith, swaps-next-second at (λ _. 0) (a .h) (a .count) (a .t) (first .i) (second .j) (swapped .result) (swapped .ensures) (c .if3 .left) (second .inv .3))
+    let v = inPlan (a .plan .now) (a .slips) (a .h) in
+    (second .inv .0, omega arith, omega arith, swaps-next-second v (a .count) (a .t) (first .i) (second .j) (swapped .result) (swapped .ensures) (c .if2 .left) (second .inv .3))
 
 add-i : tie.Need-add-i Inv-loop μ-loop Inv-search μ-search
 add-i c = omega arith
@@ -82,29 +76,27 @@ search-less c = omega arith
 
 search-again : tie.Need-search-again Inv-loop μ-loop Inv-search μ-search
 search-again c =
-    let a = c .before .before .before .before .before .before .before .args in
+    let a = c .before .before .before .before .before .before .args in
     let first = c .before .before .before .search in
     let second = c .before .loop in
-    let at = cellIn (a .plan .now) (a .h) in
-    (second .inv .0, omega arith, swaps-next-first at (λ _. 0) (a .h) (a .count) (a .t) (first .i) (second .j) (omega arith) (second .inv .3))
+    let v = inPlan (a .plan .now) (a .slips) (a .h) in
+    (second .inv .0, omega arith, swaps-next-first v (a .count) (a .t) (first .i) (second .j) (omega arith) (second .inv .3))
+
+returns-2 : tie.Need-returns-2 Inv-loop μ-loop Inv-search μ-search
+returns-2 c =
+    let a = c .before .before .before .before .args in
+    let first = c .before .search in
+    let v = inPlan (a .plan .now) (a .slips) (a .h) in
+    rw (first .inv .0) (swaps-end v (a .count) (a .t) (first .i) (omega arith) (first .inv .2))
 
 returns-3 : tie.Need-returns-3 Inv-loop μ-loop Inv-search μ-search
 returns-3 c =
-    let a = c .before .before .before .before .before .args in
-    let first = c .before .search in
-    let at = cellIn (a .plan .now) (a .h) in
-    let none = swaps-end at (λ _. 0) (a .h) (a .count) (a .t) (first .i) (omega arith) (first .inv .2) in
-    swaps-slipless at (a .k) (a .h) (a .count) (a .t) (omega arith) (first .found) (rw (first .inv .0) none)
-
-returns-4 : tie.Need-returns-4 Inv-loop μ-loop Inv-search μ-search
-returns-4 c =
-    let a = c .before .before .before .before .before .before .before .before .before .args in
+    let a = c .before .before .before .before .before .before .before .before .args in
     let first = c .before .before .before .before .before .search in
     let second = c .before .before .before .loop in
     let swapped = c .before .swap in
-    let at = cellIn (a .plan .now) (a .h) in
-    let least = swaps-found at (λ _. 0) (a .h) (a .count) (a .t) (first .i) (second .j) (swapped .result) (omega arith) (omega arith) (swapped .ensures) (c .if3 .taken) (second .inv .3) in
-    swaps-slipless at (a .k) (a .h) (a .count) (a .t) (omega arith) (Swap (first .i) (second .j) (a .t)) least
+    let v = inPlan (a .plan .now) (a .slips) (a .h) in
+    swaps-found v (a .count) (a .t) (first .i) (second .j) (swapped .result) (omega arith) (omega arith) (swapped .ensures) (c .if2 .taken) (second .inv .3)
 
 pub first-swap-spec : {M : Type 1} → statement M
 first-swap-spec =
@@ -115,7 +107,6 @@ first-swap-spec =
     Inv-search
     μ-search
     returns
-    returns-2
     search-holds
     add-j
     loop-holds
@@ -126,5 +117,5 @@ first-swap-spec =
     add-i
     search-less
     search-again
-    returns-3
-    returns-4)
+    returns-2
+    returns-3)

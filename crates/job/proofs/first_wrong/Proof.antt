@@ -1,19 +1,19 @@
--- `job::first_wrong` meets its contract: no carrier that was passed has a wrong end, so the first is that of the carriers that are left. Assumes nothing.
+-- `job::first_wrong` meets its contract: no carrier that was passed is wrong, so the first is that of the carriers that are left. Assumes nothing.
 use Prim.Native.Nat.{_≤_, _-_}
 use native.Mathlib.Omega.{arith}
 use mathlib.Core.Path.{_≡_, sym, _∙_}
 use borrow.Author.Needs.{needs}
 use Rattle.lists.specs.Lists.{range, firstOf}
 use Rattle.lists.proofs.Loops.{first-range-found, first-range-passed, first-range-done}
-use Rattle.job.specs.Job.{wrongEnds, firstWrong}
+use Rattle.job.specs.Job.{wrongCarrier, firstWrong}
 use Rattle.job.specs.Team.{jobOf}
-use Rattle.job.specs.Found.{endFound}
+use Rattle.job.specs.Found.{wrongFound}
 use Rattle.job.proofs.JobCode.{wrong-from}
 use Rattle.job.proofs.first_wrong.Statement.{statement}
 use Rattle.job.proofs.first_wrong.Tie as tie
 
 abbrev Inv-loop : tie.InvT-loop
-Inv-loop hall width height team count i₀ i = (i ≤ team .count) × (firstWrong (jobOf width height hall team 0 0) ≡ firstOf (wrongEnds (jobOf width height hall team 0 0)) (range i (team .count - i)))
+Inv-loop hall width height team count i₀ i = (i ≤ team .count) × (firstWrong (jobOf width height hall team 0) ≡ firstOf (wrongCarrier (jobOf width height hall team 0)) (range i (team .count - i)))
 
 abbrev μ-loop : tie.MeasureT-loop
 μ-loop hall width height team count i₀ i = team .count - i
@@ -21,29 +21,35 @@ abbrev μ-loop : tie.MeasureT-loop
 loop-holds : tie.Need-loop-holds Inv-loop μ-loop
 loop-holds c =
     let a = c .before .args in
-    (omega arith, wrong-from (jobOf (a .width) (a .height) (a .hall .now) (a .t4) 0 0))
+    (omega arith, wrong-from (jobOf (a .width) (a .height) (a .hall .now) (a .t4) 0))
 
-element-copy-out-wrong-ends : tie.Need-element-copy-out-wrong-ends Inv-loop μ-loop
-element-copy-out-wrong-ends c = omega arith
+element-copy-out-wrong-carrier : tie.Need-element-copy-out-wrong-carrier Inv-loop μ-loop
+element-copy-out-wrong-carrier c = omega arith
 
-cast-wrong-ends : tie.Need-cast-wrong-ends Inv-loop μ-loop
-cast-wrong-ends c = search needs
+cast-wrong-carrier : tie.Need-cast-wrong-carrier Inv-loop μ-loop
+cast-wrong-carrier c = search needs
 
-element-copy-out-wrong-ends-2 : tie.Need-element-copy-out-wrong-ends-2 Inv-loop μ-loop
-element-copy-out-wrong-ends-2 c = omega arith
+element-copy-out-wrong-carrier-2 : tie.Need-element-copy-out-wrong-carrier-2 Inv-loop μ-loop
+element-copy-out-wrong-carrier-2 c = omega arith
 
-cast-wrong-ends-2 : tie.Need-cast-wrong-ends-2 Inv-loop μ-loop
-cast-wrong-ends-2 c = search needs
+cast-wrong-carrier-2 : tie.Need-cast-wrong-carrier-2 Inv-loop μ-loop
+cast-wrong-carrier-2 c = search needs
 
-wrong-ends-requires : tie.Need-wrong-ends-requires Inv-loop μ-loop
-wrong-ends-requires c κs = omega arith
+element-copy-out-wrong-carrier-3 : tie.Need-element-copy-out-wrong-carrier-3 Inv-loop μ-loop
+element-copy-out-wrong-carrier-3 c = omega arith
+
+cast-wrong-carrier-3 : tie.Need-cast-wrong-carrier-3 Inv-loop μ-loop
+cast-wrong-carrier-3 c = search needs
+
+wrong-carrier-requires : tie.Need-wrong-carrier-requires Inv-loop μ-loop
+wrong-carrier-requires c κs = omega arith
 
 returns : tie.Need-returns Inv-loop μ-loop
-unfolding endFound wrongEnds
+unfolding wrongFound wrongCarrier
 returns c =
-    let a = c .before .before .before .before .before .before .before .args in
-    let l = c .before .before .before .before .before .loop in
-    sym (l .inv .1 ∙ first-range-found (wrongEnds (jobOf (a .width) (a .height) (a .hall .now) (a .t4) 0 0)) (l .i) (a .t4 .count) (omega arith) (sym (c .before .wrong-ends .ensures) ∙ c .if1 .taken))
+    let a = c .before .before .before .before .before .before .before .before .args in
+    let l = c .before .before .before .before .before .before .loop in
+    sym (l .inv .1 ∙ first-range-found (wrongCarrier (jobOf (a .width) (a .height) (a .hall .now) (a .t4) 0)) (l .i) (a .t4 .count) (omega arith) (sym (c .before .wrong-carrier .ensures) ∙ c .if1 .taken))
 
 add-i : tie.Need-add-i Inv-loop μ-loop
 add-i c = omega arith
@@ -52,18 +58,18 @@ loop-less : tie.Need-loop-less Inv-loop μ-loop
 loop-less c = omega arith
 
 loop-again : tie.Need-loop-again Inv-loop μ-loop
-unfolding wrongEnds
+unfolding wrongCarrier
 loop-again c =
-    let a = c .before .before .before .before .before .before .before .args in
-    let l = c .before .before .before .before .before .loop in
-    (omega arith, l .inv .1 ∙ first-range-passed (wrongEnds (jobOf (a .width) (a .height) (a .hall .now) (a .t4) 0 0)) (l .i) (a .t4 .count) (omega arith) (sym (c .before .wrong-ends .ensures) ∙ c .if1 .left))
+    let a = c .before .before .before .before .before .before .before .before .args in
+    let l = c .before .before .before .before .before .before .loop in
+    (omega arith, l .inv .1 ∙ first-range-passed (wrongCarrier (jobOf (a .width) (a .height) (a .hall .now) (a .t4) 0)) (l .i) (a .t4 .count) (omega arith) (sym (c .before .wrong-carrier .ensures) ∙ c .if1 .left))
 
 returns-2 : tie.Need-returns-2 Inv-loop μ-loop
-unfolding endFound
+unfolding wrongFound
 returns-2 c =
     let a = c .before .before .before .args in
     let l = c .before .loop in
-    sym (l .inv .1 ∙ first-range-done (wrongEnds (jobOf (a .width) (a .height) (a .hall .now) (a .t4) 0 0)) (l .i) (a .t4 .count) (omega arith))
+    sym (l .inv .1 ∙ first-range-done (wrongCarrier (jobOf (a .width) (a .height) (a .hall .now) (a .t4) 0)) (l .i) (a .t4 .count) (omega arith))
 
 pub first-wrong-spec : {M : Type 1} → statement M
 first-wrong-spec =
@@ -72,11 +78,13 @@ first-wrong-spec =
     Inv-loop
     μ-loop
     loop-holds
-    element-copy-out-wrong-ends
-    cast-wrong-ends
-    element-copy-out-wrong-ends-2
-    cast-wrong-ends-2
-    wrong-ends-requires
+    element-copy-out-wrong-carrier
+    cast-wrong-carrier
+    element-copy-out-wrong-carrier-2
+    cast-wrong-carrier-2
+    element-copy-out-wrong-carrier-3
+    cast-wrong-carrier-3
+    wrong-carrier-requires
     returns
     add-i
     loop-less

@@ -6,23 +6,23 @@ use Rattle.lent_jobs.proofs.show.Statement.{statement}
 use Rattle.lent_jobs.proofs.show.Tie as tie
 use Rattle.lines.proofs.PrintedLaws.{inside-of}
 
-slice-aggregate-plan-two : tie.Need-slice-aggregate-plan-two
-slice-aggregate-plan-two c = search needs
+slice-aggregate-plan-lent : tie.Need-slice-aggregate-plan-lent
+slice-aggregate-plan-lent c = search needs
 
-slice-aggregate-plan-two-2 : tie.Need-slice-aggregate-plan-two-2
-slice-aggregate-plan-two-2 c = search needs
+slice-aggregate-plan-lent-2 : tie.Need-slice-aggregate-plan-lent-2
+slice-aggregate-plan-lent-2 c = search needs
 
-slice-aggregate-plan-two-3 : tie.Need-slice-aggregate-plan-two-3
-slice-aggregate-plan-two-3 c = search needs
+slice-aggregate-plan-lent-3 : tie.Need-slice-aggregate-plan-lent-3
+slice-aggregate-plan-lent-3 c = search needs
 
-slice-aggregate-plan-two-4 : tie.Need-slice-aggregate-plan-two-4
-slice-aggregate-plan-two-4 c = search needs
+slice-aggregate-plan-lent-4 : tie.Need-slice-aggregate-plan-lent-4
+slice-aggregate-plan-lent-4 c = search needs
 
-plan-two-requires : tie.Need-plan-two-requires
-plan-two-requires c κs = search needs
+plan-lent-requires : tie.Need-plan-lent-requires
+plan-lent-requires c κs = search needs
 
-team-of-two-requires : tie.Need-team-of-two-requires
-team-of-two-requires c κs = search needs
+team-of-requires : tie.Need-team-of-requires
+team-of-requires c κs = search needs
 
 slice-aggregate-answer-lines : tie.Need-slice-aggregate-answer-lines
 slice-aggregate-answer-lines c = search needs
@@ -63,12 +63,12 @@ pub show-spec : {M : Type 1} → statement M
 show-spec =
     tie.close
     (tie.spec
-    slice-aggregate-plan-two
-    slice-aggregate-plan-two-2
-    slice-aggregate-plan-two-3
-    slice-aggregate-plan-two-4
-    plan-two-requires
-    team-of-two-requires
+    slice-aggregate-plan-lent
+    slice-aggregate-plan-lent-2
+    slice-aggregate-plan-lent-3
+    slice-aggregate-plan-lent-4
+    plan-lent-requires
+    team-of-requires
     slice-aggregate-answer-lines
     slice-aggregate-answer-lines-2
     answer-lines-requires

@@ -25,9 +25,6 @@ number-at-requires-2 c κs = search needs
 number-at-requires-3 : tie.Need-number-at-requires-3
 number-at-requires-3 c κs = search needs
 
-number-at-requires-4 : tie.Need-number-at-requires-4
-number-at-requires-4 c κs = search needs
-
 hall-in-requires : tie.Need-hall-in-requires
 hall-in-requires c κs = search needs
 
@@ -55,9 +52,8 @@ same-length-5 c = search needs
 returns : tie.Need-returns
 returns c =
     let said = c .before .before .answer-lines in
-    let c9 = c .before .before .before .before .before .before .before .before .before .before .before .before .before in
-    let c8 = c9 .before .before .before .before .before in
-    let c7 = c8 .before in
+    let c8 = c .before .before .before .before .before .before .before .before .before .before .before .before .before in
+    let c7 = c8 .before .before .before .before .before in
     let c6 = c7 .before in
     let c5 = c6 .before in
     let c4 = c5 .before in
@@ -67,11 +63,11 @@ returns c =
     let c0 = c1 .before in
     let a = c0 .before .before .before .before .before .before .before .args in
     job-printed (a .book .now) (a .n) (record { columns = a .columns .now; plans = a .plans .now; layers = a .layers .now; output = a .output .now }) (a .out .now)
-    (c0 .body .result .now) (c1 .body2 .result .now) (c3 .body3 .result .now) (c8 .hall-in .result .now) (c2 .team-of-bytes .result)
-    (c4 .number-at .result) (c5 .number-at2 .result) (c6 .number-at3 .result) (c7 .number-at4 .result) (c9 .plan .result)
+    (c0 .body .result .now) (c1 .body2 .result .now) (c3 .body3 .result .now) (c7 .hall-in .result .now) (c2 .team-of-bytes .result)
+    (c4 .number-at .result) (c5 .number-at2 .result) (c6 .number-at3 .result) (c8 .plan .result)
     (c0 .body .ensures .bytes) (c1 .body2 .ensures .bytes) (c2 .team-of-bytes .ensures) (c3 .body3 .ensures .bytes)
-    (c4 .number-at .ensures) (c5 .number-at2 .ensures) (c6 .number-at3 .ensures) (c7 .number-at4 .ensures) (c8 .hall-in .ensures)
-    (c9 .plan .ensures) (said .ensures)
+    (c4 .number-at .ensures) (c5 .number-at2 .ensures) (c6 .number-at3 .ensures) (c7 .hall-in .ensures)
+    (c8 .plan .ensures) (said .ensures)
 
 pub job-lines-spec : {M : Type 1} → statement M
 job-lines-spec =
@@ -84,7 +80,6 @@ job-lines-spec =
     number-at-requires
     number-at-requires-2
     number-at-requires-3
-    number-at-requires-4
     hall-in-requires
     plan-requires
     answer-lines-requires

@@ -21,7 +21,7 @@ first-short-requires c κs =
     let v = c .before .before .before .before .before .before .judge-job in
     let wrong-capacity = c .before .before .before .before .before .before .before .wrong-capacity in
     let told = c .before .before .before .before .enum-told in
-    limits (record { width = a .width; height = a .height; delay = a .k; horizon = a .h; capacity = a .n; team = a .team }) (a .hall .now) (v .result) (wrong-capacity .result) (v .ensures) (wrong-capacity .ensures) (told .given .1)
+    limits (record { width = a .width; height = a .height; horizon = a .h; capacity = a .n; team = a .team }) (a .hall .now) (v .result) (wrong-capacity .result) (v .ensures) (wrong-capacity .ensures) (told .given .1)
 
 enum-known-lengths : tie.Need-enum-known-lengths
 enum-known-lengths c = search needs
@@ -46,7 +46,7 @@ returns c =
     let told = c .before .before .before .before .before .before .before .before .enum-told in
     let first-short = c .before .before .before .first-short in
     let lengths = c .before .lengths in
-    planned-short (jobOf (a .width) (a .height) (a .hall .now) (a .team) (a .k) (a .h)) (a .n) (record { columns = a .columns .now; plans = a .plans .now; layers = a .layers .now; output = a .output .now }) (v .result) (wrong-capacity .result) (v .ensures) (wrong-capacity .ensures) (told .given .1) (first-short .result) (first-short .ensures ∙ short-any (record { width = a .width; height = a .height; delay = a .k; horizon = a .h; capacity = a .n; team = a .team }) (record { columns = a .columns .now; plans = a .plans .now; layers = a .layers .now; output = a .output .now }) (a .hall .now)) (lengths .given .0 .0) (lengths .given .0 .1 .0) (lengths .given .1)
+    planned-short (jobOf (a .width) (a .height) (a .hall .now) (a .team) (a .h)) (a .n) (record { columns = a .columns .now; plans = a .plans .now; layers = a .layers .now; output = a .output .now }) (v .result) (wrong-capacity .result) (v .ensures) (wrong-capacity .ensures) (told .given .1) (first-short .result) (first-short .ensures ∙ short-any (record { width = a .width; height = a .height; horizon = a .h; capacity = a .n; team = a .team }) (record { columns = a .columns .now; plans = a .plans .now; layers = a .layers .now; output = a .output .now }) (a .hall .now)) (lengths .given .0 .0) (lengths .given .0 .1 .0) (lengths .given .1)
 
 enum-told-2 : tie.Need-enum-told-2
 enum-told-2 c = search needs
@@ -59,8 +59,8 @@ run-requires c κs =
     let told = c .before .before .before .before .before .before .before .before .before .before .before .enum-told in
     let first-short = c .before .before .before .before .before .before .first-short in
     let enough = c .before .before .before .before .enum-told2 in
-    let room = roomy (record { width = a .width; height = a .height; delay = a .k; horizon = a .h; capacity = a .n; team = a .team }) (record { columns = a .columns .now; plans = a .plans .now; layers = a .layers .now; output = a .output .now }) (sym (enough .given .1) ∙ first-short .ensures) in
-    (ready (record { width = a .width; height = a .height; delay = a .k; horizon = a .h; capacity = a .n; team = a .team }) (a .hall .now) (v .result) (wrong-capacity .result) (v .ensures) (wrong-capacity .ensures) (told .given .1) (a .layers .now) (room .layers-room), room)
+    let room = roomy (record { width = a .width; height = a .height; horizon = a .h; capacity = a .n; team = a .team }) (record { columns = a .columns .now; plans = a .plans .now; layers = a .layers .now; output = a .output .now }) (sym (enough .given .1) ∙ first-short .ensures) in
+    (ready (record { width = a .width; height = a .height; horizon = a .h; capacity = a .n; team = a .team }) (a .hall .now) (v .result) (wrong-capacity .result) (v .ensures) (wrong-capacity .ensures) (told .given .1) (a .layers .now) (room .layers-room), room)
 
 same-length-5 : tie.Need-same-length-5
 same-length-5 c = search needs
@@ -83,7 +83,7 @@ returns-2 c =
     let first-short = c .before .before .before .before .before .before .before .before .before .before .before .before .before .before .before .first-short in
     let enough = c .before .before .before .before .before .before .before .before .before .before .before .before .before .enum-told2 in
     let r = c .before .before .before .before .before .before .before .before .run in
-    planned-ran (jobOf (a .width) (a .height) (a .hall .now) (a .team) (a .k) (a .h)) (a .n) (record { columns = a .columns .now; plans = a .plans .now; layers = a .layers .now; output = a .output .now }) (v .result) (wrong-capacity .result) (v .ensures) (wrong-capacity .ensures) (told .given .1) (first-short .result) (first-short .ensures ∙ short-any (record { width = a .width; height = a .height; delay = a .k; horizon = a .h; capacity = a .n; team = a .team }) (record { columns = a .columns .now; plans = a .plans .now; layers = a .layers .now; output = a .output .now }) (a .hall .now)) (enough .given .1) (r .result) (record { columns = r .last .1 .1 .0; plans = r .last .1 .1 .1 .0; layers = r .last .1 .1 .1 .1 .0; output = r .last .1 .1 .1 .1 .1 .0 }) (r .ensures)
+    planned-ran (jobOf (a .width) (a .height) (a .hall .now) (a .team) (a .h)) (a .n) (record { columns = a .columns .now; plans = a .plans .now; layers = a .layers .now; output = a .output .now }) (v .result) (wrong-capacity .result) (v .ensures) (wrong-capacity .ensures) (told .given .1) (first-short .result) (first-short .ensures ∙ short-any (record { width = a .width; height = a .height; horizon = a .h; capacity = a .n; team = a .team }) (record { columns = a .columns .now; plans = a .plans .now; layers = a .layers .now; output = a .output .now }) (a .hall .now)) (enough .given .1) (r .result) (record { columns = r .last .1 .1 .0; plans = r .last .1 .1 .1 .0; layers = r .last .1 .1 .1 .1 .0; output = r .last .1 .1 .1 .1 .1 .0 }) (r .ensures)
 
 returns-3 : tie.Need-returns-3
 returns-3 c =
@@ -91,7 +91,7 @@ returns-3 c =
     let v = c .before .judge-job in
     let wrong-capacity = c .before .before .wrong-capacity in
     let m = c .match in
-    planned-refusal (jobOf (a .width) (a .height) (a .hall .now) (a .team) (a .k) (a .h)) (a .n) (record { columns = a .columns .now; plans = a .plans .now; layers = a .layers .now; output = a .output .now }) (v .result) (wrong-capacity .result) (v .ensures) (wrong-capacity .ensures) (m .keys2)
+    planned-refusal (jobOf (a .width) (a .height) (a .hall .now) (a .team) (a .h)) (a .n) (record { columns = a .columns .now; plans = a .plans .now; layers = a .layers .now; output = a .output .now }) (v .result) (wrong-capacity .result) (v .ensures) (wrong-capacity .ensures) (m .keys2)
 
 pub plan-spec : {M : Type 1} → statement M
 plan-spec =

@@ -27,20 +27,20 @@ cell-of-requires c κs =
 
 stay-bars-requires : tie.Need-stay-bars-requires
 stay-bars-requires c κs =
-    let a = c .before .before .before .before .before .before .before .before .before .args in
-    let pre = c .before .before .before .before .before .before .before .before .before .pre in
-    let clash = c .before .before .before .clash in
+    let a = c .before .before .before .before .before .before .before .before .before .before .before .args in
+    let pre = c .before .before .before .before .before .before .before .before .before .before .before .pre in
+    let clash = c .before .before .before .before .before .clash in
     let job = jobOn (a .task) (a .hall .now) in
     let w = (meeting-within job (nodeAt job (a .task .capacity) (a .columns .now) (a .plans .now) (a .node)) (a .clash) (pre .1 .1 .1) (clash .given .0 .0) (clash .given .0 .1 .0) (clash .given .0 .1 .1 .0) (clash .given .0 .1 .1 .1 .0) (clash .given .1)) in
-    (omega (arith, w .2, pre .0 .horizon-most), pre .0 .delay-most)
+    (omega (arith, w .0, pre .0 .count-most), omega (arith, w .1, pre .0 .count-most), omega (arith, w .2, pre .0 .horizon-most), pre .0 .slips-most (clash .given .0 .0) (w .0), pre .0 .slips-most (clash .given .0 .1 .0) (w .1))
 
 part-requires : tie.Need-part-requires
 part-requires c κs =
-    let a = c .before .before .before .before .before .before .before .before .before .before .before .before .before .args in
-    let pre = c .before .before .before .before .before .before .before .before .before .before .before .before .before .pre in
-    let clash = c .before .before .before .before .before .before .before .clash in
+    let a = c .before .before .before .before .before .before .before .before .before .before .before .before .before .before .before .args in
+    let pre = c .before .before .before .before .before .before .before .before .before .before .before .before .before .before .before .pre in
+    let clash = c .before .before .before .before .before .before .before .before .before .clash in
     let stay-bars = c .before .before .before .stay-bars in
-    let cell-of = c .before .before .before .before .cell-of in
+    let cell-of = c .before .before .before .before .before .before .cell-of in
     let job = jobOn (a .task) (a .hall .now) in
     let w = (meeting-within job (nodeAt job (a .task .capacity) (a .columns .now) (a .plans .now) (a .node)) (a .clash) (pre .1 .1 .1) (clash .given .0 .0) (clash .given .0 .1 .0) (clash .given .0 .1 .1 .0) (clash .given .0 .1 .1 .1 .0) (clash .given .1)) in (
       pre .0,
@@ -48,7 +48,7 @@ part-requires c κs =
         pre .1 .0,
         (
           pre .1 .1 .0,
-          stays-fit (a .task) (stay-bars .result) (clash .given .0 .0) (clash .given .0 .1 .0) (w .0) (w .1) (cell-of .result) (clash .given .0 .1 .1 .0) (stay-bars .ensures) (cell-of .ensures .1) (omega (arith, w .2, pre .0 .horizon-most)) (pre .0 .delay-most),
+          stays-fit (a .task) (stay-bars .result) (clash .given .0 .0) (clash .given .0 .1 .0) (w .0) (w .1) (cell-of .result) (clash .given .0 .1 .1 .0) (stay-bars .ensures) (cell-of .ensures .1) (omega (arith, w .2, pre .0 .horizon-most)) (pre .0 .slips-most),
         ),
       ),
     )
@@ -115,12 +115,12 @@ same-length-3 c = search needs
 
 returns-2 : tie.Need-returns-2
 returns-2 c =
-    let a = c .before .before .before .before .before .before .before .before .before .before .before .before .before .before .before .before .before .before .before .before .args in
-    let pre = c .before .before .before .before .before .before .before .before .before .before .before .before .before .before .before .before .before .before .before .before .pre in
+    let a = c .before .before .before .before .before .before .before .before .before .before .before .before .before .before .before .before .before .before .before .before .before .before .args in
+    let pre = c .before .before .before .before .before .before .before .before .before .before .before .before .before .before .before .before .before .before .before .before .before .before .pre in
     let t = c .before .before .before .before .before .before .part in
     let stay-bars = c .before .before .before .before .before .before .before .before .before .before .stay-bars in
-    let clash = c .before .before .before .before .before .before .before .before .before .before .before .before .before .before .clash in
-    let cell-of = c .before .before .before .before .before .before .before .before .before .before .before .cell-of in (
+    let clash = c .before .before .before .before .before .before .before .before .before .before .before .before .before .before .before .before .clash in
+    let cell-of = c .before .before .before .before .before .before .before .before .before .before .before .before .before .cell-of in (
       t .ensures .0,
       split-meeting (jobOn (a .task) (a .hall .now)) (a .task .capacity) (a .node) (a .made) (a .columns .now) (a .plans .now) (a .clash) (pre .1 .1 .1) (stay-bars .result) (t .last .1 .1 .1 .1 .1 .0) (t .last .1 .1 .1 .1 .1 .1 .0) (t .result) (clash .given .0 .0) (clash .given .0 .1 .0) (clash .given .0 .1 .1 .0) (clash .given .0 .1 .1 .1 .0) (cell-of .result) (clash .given .1) (node-cell (a .task) (a .hall .now) (a .task .capacity) (a .columns .now) (a .plans .now) (a .node) (clash .given .0 .0) (clash .given .0 .1 .1 .0) (cell-of .result) (cell-of .ensures .0)) (stay-bars .ensures) (t .ensures .1),
     )
