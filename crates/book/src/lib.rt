@@ -1,12 +1,14 @@
 // The reader of the book of a job (document 01, 'The book of a job'): answers 11 to 15, and the body of a kind as a part of
 // the lent book. Nothing here writes.
+#![tactic(auto)]
+
 ghost use Rattle.std.specs.Prelude.{◌≡◌, false, ◌+◌, ◌<◌, ◌≤◌, length};
 ghost use Rattle.lists.specs.Lists.{refuse_if};
 ghost use Rattle.book.specs.Book.{book_number, entry_at, low_high, entry_kind, entry_offset, entry_length, body_end, wrong_kinds, wrong_bodies, hall_under_two, carriers_not_threes, limits_not_one, wrong_lengths, no_kind, book_verdict, asked_verdict};
 ghost use Rattle.book.specs.Handed.{Handed};
 
 // What the reader says, the lowest number first.
-#[derive(Drop)]
+#[derive(Clone, Copy)]
 pub enum BookVerdict {
     Good,
     NoContents,
@@ -230,7 +232,7 @@ fn parse_body(book: &[u8], kind: u8) -> &[u8]
 }
 
 // 'The reader is a small state that refers to the book it was given.'
-#[derive(Drop)]
+#[derive(Clone, Copy)]
 pub struct Reader<'a> {
     pub book: &'a [u8],
 }

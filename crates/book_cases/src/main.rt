@@ -1,5 +1,7 @@
 // Runs the reader on good and damaged books (document 01, 'The book of a job'): a line for each, with the number of its
 // answer, the length of the part handed back and what the book is.
+#![tactic(auto)]
+
 ghost use Rattle.std.specs.Prelude.{◌<◌};
 
 use libc::STDOUT_FILENO;

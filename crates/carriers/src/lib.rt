@@ -1,4 +1,6 @@
 // The forms in which a caller lends the carriers, turned into a team by value.
+#![tactic(auto)]
+
 ghost use Rattle.std.specs.Prelude.{◌<◌, ◌≡◌, [], ◌∷◌, get_or};
 ghost use Rattle.carriers.specs.Lent.{every_third, bytes_team, record_at, records_team};
 
@@ -49,7 +51,7 @@ pub fn team_of_bytes(bytes: &[u8]) -> Team
 // 'each a record of start cell and goal cell', and P3: 'Each carrier's record now has its own slip'. Three bytes in this order, as C
 // has them too.
 #[repr(C)]
-#[derive(Drop)]
+#[derive(Clone, Copy)]
 pub struct Carrier {
     pub start: u8,
     pub goal: u8,

@@ -1,5 +1,7 @@
 // Plans of document 01's worked jobs and of P3's, and wrong ones, through both checks. For each plan and check one line: the plan's
 // name, the check, then number, carrier, other, step, distance, 1 for a swap, and needed. 'Untold numbers are 0.'
+#![tactic(auto)]
+
 use job::{Fault, Team};
 
 const STDOUT: i32 = 1;

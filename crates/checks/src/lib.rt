@@ -1,6 +1,8 @@
 // The two plan checks of document 01: the route check (21) and the meeting check (22). Passing both is demand 3's plan check.
 // 'Both begin with checks 1 to 6 (no N there), then 7 if the plan is shorter than m × (H + 1); bytes after that length are not
 // read.' P1: '16 shared goal, directly after 6', and 7 tells the length that the plan needed. They write nothing.
+#![tactic(auto)]
+
 ghost use Rattle.std.specs.Prelude.{◌+◌, ◌*◌, ◌≤◌, ◌<◌, ◌≡◌, length, get_or};
 ghost use Rattle.lists.specs.Lists.{first_of};
 ghost use Rattle.job.specs.Job.{plan_cell, most_horizon, most_carriers};
@@ -73,7 +75,7 @@ fn wrong_at(
 }
 
 // The place that is wrong.
-#[derive(Drop)]
+#[derive(Clone, Copy)]
 enum Found {
     Nowhere,
     Place { carrier: usize, step: usize },

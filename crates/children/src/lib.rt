@@ -1,4 +1,6 @@
 // The nodes of the tree in the lent tables: the root (rule 3) and a child (rule 7), each with its record and its stretch of routes.
+#![tactic(auto)]
+
 ghost use Rattle.std.specs.Prelude.{◌+◌, ◌*◌, ◌≤◌, ◌<◌, ◌≡◌, length, get_or};
 ghost use Rattle.job.specs.Job.{plan_length};
 ghost use Rattle.routes.specs.declared.Bar.TheVariants.{Free};
@@ -16,7 +18,7 @@ use marks::Bound;
 use routes::Bar;
 
 // An accepted job's numbers and carriers, and N: what a search works on beside the hall and the tables.
-#[derive(Drop)]
+#[derive(Clone, Copy)]
 pub struct Task {
     pub width: usize,
     pub height: usize,
@@ -26,7 +28,7 @@ pub struct Task {
 }
 
 // What became of a child: it has no route, it took a record, or a record is due and all are in use.
-#[derive(Drop)]
+#[derive(Clone, Copy)]
 pub enum Grown {
     Nothing,
     Made,

@@ -1,4 +1,6 @@
 // Meetings and swaps between carriers, the chosen one of rule 5, holds and collisions, and the meeting check (22).
+#![tactic(auto)]
+
 ghost use Rattle.std.specs.Prelude.{◌+◌, ◌-◌, ◌<◌, ◌≤◌, min, max, ◌≡◌, get_or};
 ghost use Rattle.lists.specs.Lists.{greatest};
 ghost use Rattle.job.specs.Job.{most_slip, most_horizon};
@@ -9,7 +11,7 @@ use job::{Team, Verdict};
 
 // The meeting or swap that rule 5 chooses: first, the earlier carrier, is at step where second is distance steps later, or they
 // exchange cells.
-#[derive(Drop)]
+#[derive(Clone, Copy)]
 pub enum Clash {
     Clear,
     Meeting {
@@ -26,7 +28,7 @@ pub enum Clash {
 }
 
 // What the meeting check says; the clash it found stands in it.
-#[derive(Drop)]
+#[derive(Clone, Copy)]
 pub enum MeetingVerdict {
     Refused(Verdict),
     Short { needed: usize },

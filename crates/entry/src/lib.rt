@@ -1,6 +1,8 @@
 // The planner and the two plan checks as the library's exported functions, or another caller in Rattle, use them: 'The list of carriers
 // is lent as a list of records'. The records are read by value, and the rest is the covered planner and checks. No function asks
 // anything of its caller.
+#![tactic(auto)]
+
 ghost use Rattle.std.specs.Prelude.{◌≡◌};
 ghost use Rattle.job.specs.Team.{job_of};
 ghost use Rattle.carriers.specs.Lent.{records_team};

@@ -1,4 +1,6 @@
 // The floor of document 01: its bytes, its open cells and the five moves.
+#![tactic(auto)]
+
 ghost use Rattle.std.specs.Prelude.{◌≤◌, ◌<◌, ◌&&◌, ◌||◌, ◌≡◌, eqb, ltb, leb, get_or};
 ghost use Rattle.lists.specs.Lists.{any_of};
 ghost use Rattle.hall.specs.Hall.{wrong_side, wrong_byte, wrong_bytes, is_open};
@@ -14,7 +16,7 @@ const CLOSED: u8 = 35;
 pub const MOST_SIDE: usize = 16;
 
 // Columns and rows, where they are handed on together.
-#[derive(Drop)]
+#[derive(Clone, Copy)]
 pub struct Grid {
     pub width: usize,
     pub height: usize,
@@ -78,7 +80,7 @@ pub fn is_open(hall: &[u8], width: usize, height: usize, cell: usize) -> bool
 }
 
 // One of the five moves, as a change of row and a change of column.
-#[derive(Drop)]
+#[derive(Clone, Copy)]
 pub struct Move {
     pub row: i8,
     pub col: i8,
@@ -114,7 +116,7 @@ pub fn right(m: usize) -> usize
 }
 
 // Where a move leads.
-#[derive(Drop)]
+#[derive(Clone, Copy)]
 pub enum Landing {
     Off,
     Cell(usize),

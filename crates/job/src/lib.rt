@@ -1,4 +1,6 @@
 // What a job is and what makes one accepted: answers 1 to 6 of document 01, and 16 of P1.
+#![tactic(auto)]
+
 ghost use Rattle.std.specs.Prelude.{◌≤◌, ◌<◌, not, ◌||◌, ◌≡◌, eqb, ltb};
 ghost use Rattle.lists.specs.Lists.{first_of};
 ghost use Rattle.hall.specs.Hall.{is_open};
@@ -18,7 +20,7 @@ pub const MOST_RECORDS: usize = 1024;
 pub const MOST_CARRIERS: usize = 8;
 
 // The carriers by value: start, goal and slip of each, and how many there are.
-#[derive(Drop)]
+#[derive(Clone, Copy)]
 pub struct Team {
     pub starts: [u8; 8],
     pub goals: [u8; 8],
@@ -27,7 +29,7 @@ pub struct Team {
 }
 
 // What the checks 1 to 6 and 16 say, in their order.
-#[derive(Drop)]
+#[derive(Clone, Copy)]
 pub enum Verdict {
     Accepted,
     WrongGrid,
@@ -40,7 +42,7 @@ pub enum Verdict {
 }
 
 // What is given back: the number and what is told beside it. 'Untold numbers are 0.'
-#[derive(Drop)]
+#[derive(Clone, Copy)]
 pub struct Told {
     pub number: usize,
     pub sum: usize,
@@ -53,7 +55,7 @@ pub struct Told {
 
 // What the two plan checks give back: a number, one carrier or two, a step, a distance, 1 for a swap, and the length that the plan
 // needed.
-#[derive(Drop)]
+#[derive(Clone, Copy)]
 pub struct Fault {
     pub number: usize,
     pub carrier: usize,
@@ -150,7 +152,7 @@ fn wrong_carrier(
 }
 
 // The first carrier whose start, goal or slip is wrong.
-#[derive(Drop)]
+#[derive(Clone, Copy)]
 enum Carriers {
     Right,
     Wrong(usize),
@@ -179,7 +181,7 @@ fn first_wrong(hall: &[u8], width: usize, height: usize, team: Team) -> Carriers
 }
 
 // Two carriers that share a start, or a goal.
-#[derive(Drop)]
+#[derive(Clone, Copy)]
 enum Shared {
     Nobody,
     Two(usize, usize),

@@ -3,6 +3,8 @@
 // to 0: first with the step at which the best way on from a cell ends; then, on the ways that end where the best route does, with their
 // fewest moves. Crate writer then reads the route off forwards. The first pass begins at a step by which the route has most likely ended,
 // and only where it may end later is it begun again at the horizon.
+#![tactic(auto)]
+
 ghost use Rattle.std.specs.Prelude.{◌+◌, ◌-◌, ◌*◌, min, max, ◌≤◌, ◌<◌, true, ◌||◌, ◌≡◌, eqb, length, get_or, set, replicate};
 ghost use Rattle.lent.specs.Lent.{SameFrom};
 ghost use Rattle.lent.specs.Made.{Made};
@@ -23,7 +25,7 @@ const NO_WAY: u8 = 255;
 const LATER: u8 = 254;
 
 // What a route is sought for.
-#[derive(Drop)]
+#[derive(Clone, Copy)]
 pub struct Trip {
     pub start: usize,
     pub goal: usize,
@@ -31,7 +33,7 @@ pub struct Trip {
 }
 
 // What seeking a route finds: none, or one of this cost.
-#[derive(Drop)]
+#[derive(Clone, Copy)]
 pub enum Sought {
     Nothing,
     Cost(usize),

@@ -1,4 +1,6 @@
 // Clearing and copying in lent tables, whatever they hold.
+#![tactic(auto)]
+
 ghost use Rattle.std.specs.Prelude.{◌+◌, ◌≤◌, ◌≡◌, ◌++◌, length, take, drop};
 ghost use Rattle.std.proofs.Math.Seq.{paste};
 ghost use Rattle.lent.specs.Lent.{zeroed};

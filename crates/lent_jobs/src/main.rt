@@ -1,6 +1,8 @@
 // Document 01, 'Jobs worked by hand', those with two carriers, refusals of document 02, P1, and jobs of its P2 and P3: the carriers are
 // lent as a list of records to the planner and to both checks of what it wrote. For each job its lines, then the numbers of the route
 // check and of the meeting check, then an empty line.
+#![tactic(auto)]
+
 ghost use Rattle.std.specs.Prelude.{◌≤◌, ◌≡◌, take};
 ghost use Rattle.job.specs.Team.{job_of};
 ghost use Rattle.carriers.specs.Lent.{records_team};

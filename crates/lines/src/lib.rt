@@ -1,4 +1,6 @@
 // The lines that the program prints for an answer (document 01, 'The book of a job'), written into a lent buffer.
+#![tactic(auto)]
+
 ghost use Rattle.std.specs.Prelude.{◌+◌, ◌*◌, ◌≤◌, ◌≡◌, ◌++◌, length, get_or, take};
 ghost use Rattle.book.specs.Parts.{hall_in};
 ghost use Rattle.planner.specs.Answer.{planned, answer_told};

@@ -1,5 +1,7 @@
 // The bars of a node, marked in the lent layers, so that filling them never walks the ancestors. The layers are two planes, each with a
 // byte for each step and cell: in the first a cell that is barred at a step is marked, in the second the moves that are barred there.
+#![tactic(auto)]
+
 ghost use Rattle.std.specs.Prelude.{◌+◌, ◌^◌, min, max, ◌≤◌, ◌<◌, ◌||◌, [], ◌∷◌, ◌≡◌};
 ghost use Rattle.routes.specs.Bars.{bars_for};
 ghost use Rattle.routes.specs.declared.Bar.TheVariants.{Stay, Cross};
@@ -14,7 +16,7 @@ use routes::Bar;
 const BARRED: u8 = 255;
 
 // Whose bars are asked for: those that bind a carrier at a node of N records, and a new one.
-#[derive(Drop)]
+#[derive(Clone, Copy)]
 pub struct Bound {
     pub capacity: usize,
     pub node: usize,
@@ -23,7 +25,7 @@ pub struct Bound {
 }
 
 // What bars are like: whether one of them forbids a crossing, and a step from which on none forbids anything.
-#[derive(Drop)]
+#[derive(Clone, Copy)]
 pub struct Bearing {
     pub crossing: bool,
     pub until: usize,

@@ -1,4 +1,6 @@
 // Document 01: the program reads standard input, 'uses N = 128 and prints.' P3: 'the program reads at most 300 bytes'.
+#![tactic(auto)]
+
 use libc::{STDIN_FILENO, STDOUT_FILENO};
 
 fn main() {

@@ -1,4 +1,6 @@
 // The planner: document 01's tree as an instance of the search, its answers, and what the lent tables hold afterwards.
+#![tactic(auto)]
+
 ghost use Rattle.std.specs.Prelude.{◌+◌, ◌*◌, ◌≤◌, ◌<◌, ◌≡◌, length, get_or};
 ghost use Rattle.job.specs.Job.{plan_length};
 ghost use Rattle.job.specs.Team.{job_of};
@@ -18,7 +20,7 @@ use routes::Bar;
 use tables::Least;
 
 // What the planner says.
-#[derive(Drop)]
+#[derive(Clone, Copy)]
 pub enum Answer {
     Plan { sum: usize, records: usize },
     Refused(Verdict),
@@ -28,7 +30,7 @@ pub enum Answer {
 }
 
 // The two bars of a split: 'child one bars i and child two bars j'.
-#[derive(Drop)]
+#[derive(Clone, Copy)]
 pub struct Bars {
     pub i: usize,
     pub one: Bar,
@@ -37,7 +39,7 @@ pub struct Bars {
 }
 
 // How a turn of the search goes.
-#[derive(Drop)]
+#[derive(Clone, Copy)]
 pub enum Turn {
     Spent,
     Clear { node: usize },
@@ -46,7 +48,7 @@ pub enum Turn {
 }
 
 // How the search ends.
-#[derive(Drop)]
+#[derive(Clone, Copy)]
 pub enum End {
     Spent { made: usize },
     Clear { node: usize, made: usize },
@@ -356,7 +358,7 @@ fn run(
 }
 
 // What the lengths of the lent tables say.
-#[derive(Drop)]
+#[derive(Clone, Copy)]
 enum Lengths {
     Enough,
     Lacking { table: usize, needed: usize },

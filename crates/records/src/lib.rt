@@ -1,4 +1,6 @@
 // The records of the nodes in the lent columns, and the bars in them.
+#![tactic(auto)]
+
 ghost use Rattle.std.specs.Prelude.{◌*◌, ◌≤◌, ◌<◌, ◌≡◌, length};
 ghost use Rattle.records.specs.Columns.{entry, bar_at};
 

@@ -1,4 +1,6 @@
 // The best route of a carrier as a C function, for the benchmark: its arguments are looked at here, so that any may be handed in.
+#![tactic(auto)]
+
 ghost use Rattle.std.specs.Prelude.{◌*◌, ◌≤◌, ◌<◌, length};
 ghost use Rattle.records.specs.Columns.{Falls};
 ghost use Rattle.route_bench.specs.Answer.{Tells, RightFloor, RightRoom, RightArguments, hall_of, bars_at, Told, Answered};

@@ -2,6 +2,8 @@
 // with the engine: halls of up to 3 by 3 cells, horizons of up to 5 steps, and up to 6 records below the root, of which some bind another
 // carrier and some are no ancestors of the node. Most bars lie on the best route that those before them leave; how many of the answers
 // they change is counted, and how many would be others by document 01's rule, which has no word of moves.
+#![tactic(auto)]
+
 ghost use Rattle.std.specs.Prelude.{◌+◌, ◌≤◌, ◌<◌};
 
 const STDOUT: i32 = 1;
@@ -53,7 +55,7 @@ const COST: usize = 8;
 // A cell that no hall has: a move off the grid.
 const OFF: usize = 99;
 
-#[derive(Drop)]
+#[derive(Clone, Copy)]
 struct Case {
     width: usize,
     height: usize,
@@ -66,7 +68,7 @@ struct Case {
 }
 
 // By which rule ways are enumerated: whether bars on crossings bind, and whether moves count.
-#[derive(Drop)]
+#[derive(Clone, Copy)]
 struct Rule {
     crossings: bool,
     moves: bool,
@@ -608,7 +610,7 @@ fn engine(
 
 // What one round shows: whether engine and enumeration differ, whether there is a route, whether the bars change the answer, whether those on
 // crossings do, and whether document 01's rule would.
-#[derive(Drop)]
+#[derive(Clone, Copy)]
 struct Shown {
     differ: bool,
     found: bool,
@@ -656,7 +658,7 @@ fn compared(hall: &[u8], columns: &[u16], case: Case) -> Shown {
 }
 
 // What was seen in the rounds so far.
-#[derive(Drop)]
+#[derive(Clone, Copy)]
 struct Seen {
     seed: u64,
     differ: usize,

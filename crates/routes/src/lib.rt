@@ -1,8 +1,10 @@
 // Routes of one carrier: lawful ones, their cost, bars, the best route under bars, and the route check (21).
+#![tactic(auto)]
+
 use job::Verdict;
 
 // What a carrier may not do: be on a cell from one step to another, or go from one cell to another between step and step + 1.
-#[derive(Drop)]
+#[derive(Clone, Copy)]
 pub enum Bar {
     Free,
     Stay {
@@ -18,7 +20,7 @@ pub enum Bar {
 }
 
 // What the route check says.
-#[derive(Drop)]
+#[derive(Clone, Copy)]
 pub enum RouteVerdict {
     Lawful,
     Refused(Verdict),

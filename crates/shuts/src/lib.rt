@@ -1,5 +1,7 @@
 // The moves that are shut at a step, for all cells: a byte for each move and cell, and one more for each cell that says whether it is
 // closed, so that filling a layer asks nothing else.
+#![tactic(auto)]
+
 ghost use Rattle.std.specs.Prelude.{◌+◌, ◌*◌, max, ◌≤◌, ◌<◌, not, ◌≡◌, eqb, length, get_or, replicate};
 ghost use Rattle.lent.specs.Made.{Made};
 ghost use Rattle.shuts.specs.Shuts.{has_digit, shut_if};

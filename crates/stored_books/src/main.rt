@@ -1,6 +1,8 @@
 // Compares stored books with the lines that the independent second program printed for them: `make_books 1 600 FILE` of
 // second/ made both files. In `books` each book stands behind its 16-bit length, low byte first; in `expected` the lines of each
 // are followed by an empty line. The comparison stops at the first book whose lines differ.
+#![tactic(auto)]
+
 ghost use Rattle.std.specs.Prelude.{◌≤◌, ◌<◌};
 
 use libc::STDOUT_FILENO;
@@ -18,7 +20,7 @@ const LENGTH_BYTES: usize = 2;
 const TURNS: usize = 1000;
 
 // How far the comparison has come in both files.
-#[derive(Drop)]
+#[derive(Clone, Copy)]
 struct Walk {
     book: usize,
     line: usize,

@@ -1,4 +1,6 @@
 // The planner's leaves over the lent tables: the open node of least sum, a record written, the cost and the sum of routes.
+#![tactic(auto)]
+
 ghost use Rattle.std.specs.Prelude.{◌+◌, ◌*◌, ◌≤◌, ◌<◌, ◌≡◌, length, get_or, set};
 ghost use Rattle.lists.specs.Lists.{sum_to};
 ghost use Rattle.routes.specs.Route.{cost, route_in};
@@ -19,14 +21,14 @@ const IS_CLOSED: u16 = 0;
 const NO_BAR: usize = 0;
 
 // The open node of least sum, if there is one.
-#[derive(Drop)]
+#[derive(Clone, Copy)]
 pub enum Least {
     Nothing,
     At(usize),
 }
 
 // The kind of a bar and its three numbers, as a record has them.
-#[derive(Drop)]
+#[derive(Clone, Copy)]
 pub struct Code {
     pub kind: usize,
     pub first: usize,

@@ -1,5 +1,7 @@
 // Words and numbers written into a lent buffer, one after the other: each function takes the place to write at and gives back the
 // next. What does not fit is left out.
+#![tactic(auto)]
+
 ghost use Rattle.std.specs.Prelude.{◌+◌, ◌%◌, ◌≡◌};
 ghost use Rattle.text.specs.Text.{page, put_byte, put, digits};
 

@@ -1,4 +1,6 @@
 // The number of each answer, and what is told beside it, as document 01's table and P1 have them.
+#![tactic(auto)]
+
 ghost use Rattle.std.specs.Prelude.{◌≡◌};
 ghost use Rattle.job.specs.Told.{counted as counted_told, too_short, fault as fault_of, plan_too_short};
 ghost use Rattle.planner.specs.Answer.{answer_told};

@@ -1,6 +1,8 @@
 // Document 01, 'Jobs worked by hand': all of them, also the one without a star, each as a book with its N; and of document 02 for P1 two
 // jobs with shared ends, for P2 two in which a carrier stands rather than wanders, for P3 four of unequal slips. The lines of each are
 // followed by an empty line.
+#![tactic(auto)]
+
 use libc::STDOUT_FILENO;
 
 // Tables of the greatest lengths for N = 128.

@@ -1,6 +1,8 @@
 // The best route of a carrier, read off the lent layers (crate layers) and written into a node's own stretch.
 // Document 02, P2: 'take those with the fewest moves, and among these the first in dictionary order'. So from step 0 on it goes each time to
 // the lowest cell by which as few moves are left as there may be, and stays where none is left.
+#![tactic(auto)]
+
 ghost use Rattle.std.specs.Prelude.{◌+◌, ◌-◌, ◌*◌, ◌/◌, ◌%◌, ◌≤◌, ◌<◌, not, ◌&&◌, ◌≡◌, ◌++◌, eqb, ltb, length, get_or, take, replicate};
 ghost use Rattle.hall.specs.Landing.{landed};
 ghost use Rattle.marks.specs.Post.{Layered};
