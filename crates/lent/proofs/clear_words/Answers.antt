@@ -1,0 +1,32 @@
+-- The loop's invariant: the first i entries are zero, the rest are as they were. Assumes nothing.
+use Prim.Native.Nat.{◌≤◌, ◌-◌}
+use native.Mathlib.Omega.{arith}
+use mathlib.Core.Path.{◌≡◌}
+use Rattle.lent.specs.Lent.{zeroed}
+use Rattle.lists.proofs.Loops.{at_end}
+use Rattle.lent.proofs.Copies.{zeroed_none, zeroed_more, zeroed-length}
+use Rattle.lent.proofs.clear_words.Goals as goal
+
+pub loop-i-init : goal.loop-i-init
+loop-i-init c = (omega arith, zeroed_none c.args.words.now)
+
+pub offset_bounds-words-i : goal.offset_bounds-words-i
+offset_bounds-words-i c = omega arith
+
+pub bounds-words-i : goal.bounds-words-i
+bounds-words-i c = omega (arith, zeroed-length c.args.words.now c.loop-i.words c.loop-i.i (omega arith) c.loop-i.invariant.1)
+
+pub overflow_step-i : goal.overflow_step-i
+overflow_step-i c = omega arith
+
+pub loop-i-smaller : goal.loop-i-smaller
+loop-i-smaller c = omega arith
+
+pub loop-i-preserved : goal.loop-i-preserved
+loop-i-preserved c = (omega arith, zeroed_more c.args.words.now c.loop-i.words c.loop-i.i (omega arith) c.loop-i.invariant.1)
+
+pub shape_of-words : goal.shape_of-words
+shape_of-words c = zeroed-length c.args.words.now c.loop-i.words c.loop-i.i (omega arith) c.loop-i.invariant.1
+
+pub returns : goal.returns
+returns c = at_end (λ k. zeroed k c.args.words.now) c.loop-i.words c.loop-i.i c.args.n (omega arith) (omega arith) c.loop-i.invariant.1
