@@ -24,9 +24,6 @@ use Rattle.clashes.proofs.Compared.{other_now, other_later}
 use Rattle.clashes.proofs.Candidates.{Listed, first_passed}
 use Rattle.clashes.proofs.First.{first_chosen}
 
--- which of its variants a clash is, as a `match` reads it
-abbrev tag : Clash → ℕ
-tag c = tag_of (declared enum) c
 
 module _ (v : Travel) (m : ℕ) where
   -- every clash that happens comes at c or later
@@ -118,11 +115,11 @@ module _ (v : Travel) (m : ℕ) where
         let f = from (Swap i' j' t') listed test in
         elim (ℕ_discrete t t') [ yes e ↦ absurd (fails i' j' listed.0 listed.1 (rw e test)) | no ne ↦ omega arith ]
 
-    pub from_next_step : (c : Clash) → (tag c ≡ 0) ⊎ (tag c ≡ 1) → FirstSwap v m t c → From (Swap 0 0 t) → From (Meeting 0 0 (t + 1) 0)
+    pub from_next_step : (c : Clash) → ((x y u : ℕ) → c ≡ Swap x y u → ⊥) → FirstSwap v m t c → From (Swap 0 0 t) → From (Meeting 0 0 (t + 1) 0)
     unfolding FirstSwap
     from_next_step Clear e first from = no_swap_at first from
     from_next_step (Meeting i j u d) e first from = absurd first
-    from_next_step (Swap i j u) e first from = absurd (⊎_elim (λ (q : tag (Swap i j u) ≡ 0). omega arith) (λ (q : tag (Swap i j u) ≡ 1). omega arith) e)
+    from_next_step (Swap i j u) n first from = absurd (n i j u refl)
 
   -- ---- the end of the search
 
@@ -130,11 +127,11 @@ module _ (v : Travel) (m : ℕ) where
   unfolding From happens Listed
   from_meeting i j t d im jm step near test from = sym (first_chosen v m (Meeting i j t d) (im, jm, step, near) test from)
 
-  pub from_swap : (t : ℕ) → t ≤ v.horizon → (c : Clash) → tag c ≡ 2 → FirstSwap v m t c → From (Swap 0 0 t) → c ≡ chosen v m
+  pub from_swap : (t : ℕ) → t ≤ v.horizon → (c : Clash) (x y w : ℕ) → c ≡ Swap x y w → FirstSwap v m t c → From (Swap 0 0 t) → c ≡ chosen v m
   unfolding From happens Listed FirstSwap NotLater
-  from_swap t step Clear e first from = absurd (omega arith)
-  from_swap t step (Meeting i j u d) e first from = absurd first
-  from_swap t step (Swap i j u) e first from =
+  from_swap t step Clear x y w e first from = cc
+  from_swap t step (Meeting i j u d) x y w e first from = absurd first
+  from_swap t step (Swap i j u) x y w e first from =
       let now : u ≡ t = first.0 in
       rw now (sym (first_chosen v m (Swap i j t) (first.1, first.2, step) first.3 sooner))
     where
