@@ -32,4 +32,4 @@ returns c =
     let closed = c.shut_closed in
     let left = c.shut_each in
     let right = c.shut_each-2 in
-    floor_laid (lent_hall a.grid a.hall.now) a.shuts.now closed.new.1.1.0 left.new.1.1.1.1.0 right.new.1.1.1.1.0 p.0.some (area_small p.0.wide p.0.high) p.1 closed.ensures left.ensures right.ensures
+    floor_laid (lent_hall a.grid a.hall.now) a.shuts.now closed.new.shuts left.new.shuts right.new.shuts p.0.some (area_small p.0.wide p.0.high) p.1 closed.ensures left.ensures right.ensures
