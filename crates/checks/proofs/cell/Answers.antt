@@ -1,0 +1,11 @@
+-- `checks::cell` meets its contract: a byte is below 256. Assumes nothing.
+use native.Mathlib.Omega.{arith}
+use mathlib.Core.Path.{refl}
+use borrow.Author.Rules.{rules}
+use Rattle.checks.proofs.cell.Goals as goal
+
+pub overflow_cast-result : goal.overflow_cast-result
+overflow_cast-result c = omega (arith, c.shared_slice_known-1.given c.args.at)
+
+pub returns : goal.returns
+returns c = (refl, omega (arith, c.shared_slice_known-1.given c.args.at))

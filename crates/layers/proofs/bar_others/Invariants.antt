@@ -1,0 +1,15 @@
+-- The first v bytes are marks. Assumes nothing.
+use native.Mathlib.Omega.{arith}
+use Prim.Native.Nat.{◌-◌, ◌≤◌}
+use mathlib.Core.Path.{◌≡◌, ap, ◌∙◌}
+use mathlib.Core.Bool.{true}
+use Rattle.lent.specs.Made.{Made}
+use Rattle.lent.proofs.MadeLaws.{made_none, made_next, made_more, made_all}
+use Rattle.layers.specs.Fill.{mark_for}
+use Rattle.layers.proofs.bar_others.Given as goal
+
+abbrev pub invariant-loop-v : goal.invariant-loop-v
+invariant-loop-v l = Made l.base l.v (λ w byte. mark_for true l.last byte) l.initial.layers l.layers × (l.v ≤ l.size)
+
+abbrev pub decreases-loop-v : goal.decreases-loop-v
+decreases-loop-v l = l.size - l.v

@@ -1,0 +1,13 @@
+-- The layers from step t on are made. Assumes nothing.
+use native.Mathlib.Omega.{arith}
+use Prim.Native.Nat.{◌+◌, ◌-◌, ◌*◌}
+use mathlib.Core.Path.{◌≡◌, refl, subst}
+use Rattle.layers.proofs.LayerLaws.{half_small, half_turned}
+use Rattle.layers.proofs.PassLaws.{pass_bounds, next_layer, Passing, passing_begins, passing_more, passing_ends, none_crossing}
+use Rattle.layers.proofs.fill_back.Given as goal
+
+abbrev pub invariant-loop-t : goal.invariant-loop-t
+invariant-loop-t l = Passing l.grid l.floor l.moves l.crossing l.goal l.plane l.last l.initial.layers l.layers l.shuts l.slate l.from l.t
+
+abbrev pub decreases-loop-t : goal.decreases-loop-t
+decreases-loop-t l = l.t
