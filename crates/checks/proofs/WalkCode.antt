@@ -18,7 +18,7 @@ use Rattle.job.specs.declared.Team.{Team}
 use Rattle.job.specs.declared.Verdict.{Verdict}
 use Rattle.job.specs.declared.Verdict.TheVariants.{Accepted}
 use Rattle.job.proofs.Accepted.{accepted_facts}
-use Rattle.job.proofs.Refused.{if_accepted_lem, if_refused, Refusal, refusal_refuses}
+use Rattle.job.proofs.Refused.{if_accepted_lem, if_refused}
 use Rattle.routes.specs.Check.{Place, places, wrong_move, wrong_arrival, wrong_at, first_wrong_place, place_verdict, plan_verdict, route_verdict}
 use Rattle.routes.specs.declared.RouteVerdict.TheVariants.{Lawful, Refused, Short, Wrong}
 use Rattle.clashes.specs.Check.{plan_clash, compared, meeting_verdict}
@@ -136,13 +136,13 @@ module _ (job : Job) (plan : List ℕ) (v : Verdict) (told : v ≡ judge_with fa
   unfolding route_verdict judge
   routes_accepted e = sym (if_accepted_lem (judge_with false job) (plan_verdict job plan) (Refused (judge_with false job)) (sym told ∙ e))
 
-  pub routes_refused : Refusal v → Refused v ≡ route_verdict job plan
+  pub routes_refused : (v ≡ Accepted → ⊥) → Refused v ≡ route_verdict job plan
   unfolding route_verdict judge
-  routes_refused tag = rw (← told) (sym (if_refused v (plan_verdict job plan) (Refused v) (refusal_refuses v tag)))
+  routes_refused refused = rw (← told) (sym (if_refused v (plan_verdict job plan) (Refused v) refused))
 
-  pub meetings_refused : Refusal v → RefusedJob v ≡ meeting_verdict job plan
+  pub meetings_refused : (v ≡ Accepted → ⊥) → RefusedJob v ≡ meeting_verdict job plan
   unfolding meeting_verdict judge
-  meetings_refused tag = rw (← told) (sym (if_refused v (compared job plan) (RefusedJob v) (refusal_refuses v tag)))
+  meetings_refused refused = rw (← told) (sym (if_refused v (compared job plan) (RefusedJob v) refused))
 
 -- what the meeting check goes on with: the numbers of the lent team
 module _ (width height : ℕ) (bytes : List ℕ) (team : Team) (h : ℕ) (v : Verdict) (told : v ≡ judge_with false (job_of width height bytes team h)) where

@@ -1,15 +1,11 @@
 -- The cases of a verdict, told apart once for every proof that asks only whether the job is accepted. Assumes nothing.
 use Prim.Native.Nat.{ℕ, ◌≤◌}
 use native.Mathlib.Omega.{arith}
-use mathlib.Core.List.{[], ◌∷◌}
 use mathlib.Core.Logic.{◌⊎◌, inl, inr}
-use mathlib.Core.Path.{◌≡◌, refl, ap, subst}
-use denote.Enum.Declared.{tag_of}
-use types.Run.{OneOf, miss}
+use mathlib.Core.Path.{◌≡◌, refl, ap}
 use Rattle.job.specs.Verdict.{verdict_told, if_accepted}
 use Rattle.job.specs.declared.Verdict.{Verdict}
 use Rattle.job.specs.declared.Verdict.TheVariants.{Accepted, WrongGrid, WrongBytes, WrongLimits, WrongCount, WrongCarrier, SharedStart, SharedGoal}
-use Rattle.job.specs.contracts.Verdict.{the_type}
 
 -- the numbers that refuse a job
 unfoldable pub Refusing : ℕ → Type 0
@@ -72,10 +68,3 @@ if_refused WrongCount go stop n = refl
 if_refused (WrongCarrier i) go stop n = refl
 if_refused (SharedStart i j) go stop n = refl
 if_refused (SharedGoal i j) go stop n = refl
-
--- the verdicts but `Accepted`, as a `match` reads them
-abbrev pub Refusal : Verdict → Type 0
-Refusal v = OneOf (1 ∷ 2 ∷ 3 ∷ 4 ∷ 5 ∷ 6 ∷ 7 ∷ []) (tag_of the_type v)
-
-pub refusal_refuses : (v : Verdict) → Refusal v → v ≡ Accepted → ⊥
-refusal_refuses v k e = miss (1 ∷ 2 ∷ 3 ∷ 4 ∷ 5 ∷ 6 ∷ 7 ∷ []) 0 tt (subst Refusal e k)

@@ -24,4 +24,4 @@ returns c =
     let a = c.args in
     let j = c.judge_job-verdict in
     let job = job_of a.width a.height a.hall.now a.team a.h in
-    routes_refused job a.plan.now j.result j.ensures c.in_default.keys2
+    routes_refused job a.plan.now j.result j.ensures c.in_default.not-Accepted
