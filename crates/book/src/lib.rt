@@ -251,7 +251,7 @@ pub fn reader_body<'a>(reader: Reader<'a>, kind: u8) -> &'a [u8]
     parse_body(reader.book, kind)
 }
 
-// For every caller that has a plain slice: a reader of it is asked, and the caller needs no walk by hand.
+// For every caller that has a plain slice: a reader of it is asked.
 pub fn judge_asked(book: &[u8], kind: u8) -> BookVerdict
     ensures { result ≡ asked_verdict book.now kind }
 {

@@ -1,7 +1,6 @@
 -- `book::entry_kind` meets its contract: the byte at the place that `entry_at` gave. Assumes nothing.
 use Prim.Native.Nat.{ℕ}
 use mathlib.Core.Path.{ap}
-use borrow.Author.Rules.{rules}
 use lib.ListN.{get_or}
 use Rattle.book.specs.Book.{entry_kind}
 use Rattle.book.proofs.entry_kind.Goals as goal

@@ -1,7 +1,6 @@
 -- `book::entry_offset` meets its contract: what `low_high` reads, at the place that `entry_at` gave. Assumes nothing.
 use Prim.Native.Nat.{ℕ, ◌+◌}
 use mathlib.Core.Path.{ap, ◌∙◌}
-use borrow.Author.Rules.{rules}
 use Rattle.book.specs.Book.{low_high, entry_offset}
 use Rattle.book.proofs.entry_offset.Goals as goal
 

@@ -1,8 +1,6 @@
 -- `book::judge_book` meets its contract: each return is the case of the tests that led there. Assumes nothing.
-use native.Mathlib.Omega.{arith}
 use mathlib.Core.Path.{◌≡◌}
 use mathlib.Core.Bool.{true, false}
-use borrow.Author.Rules.{rules}
 use Rattle.book.specs.Book.{wrong_kinds, wrong_bodies, wrong_lengths}
 use Rattle.book.proofs.Answers.{verdict_short, verdict_count, verdict_kinds, verdict_bodies, verdict_lengths, verdict_good}
 use Rattle.book.proofs.judge_book.Goals as goal
@@ -25,12 +23,6 @@ returns-then-wrong_bodies c =
     let k : wrong_kinds book ≡ false = cc in
     let b : wrong_bodies book ≡ true = cc in
     verdict_bodies book c.if-book-lt-CONTENTS_LENGTH.false c.if-book-ne-ENTRY_COUNT.false k b
-
-pub wrong_lengths-requires : goal.wrong_lengths-requires
-wrong_lengths-requires c =
-    let book = c.args.book.now in
-    let b : wrong_bodies book ≡ false = cc in
-    (omega arith, b)
 
 pub returns-then-wrong_lengths : goal.returns-then-wrong_lengths
 returns-then-wrong_lengths c =

@@ -1,6 +1,5 @@
 -- `book::parse_answer` meets its contract: of a good book the kind decides, and a refusal of the book stands. Assumes nothing.
 use mathlib.Core.Path.{sym, ◌∙◌}
-use borrow.Author.Rules.{rules}
 use Rattle.book.proofs.Verdicts.{asked_kind, asked_refused}
 use Rattle.book.proofs.parse_answer.Goals as goal
 

@@ -1,12 +1,9 @@
 -- `book::parse_body` meets its contract: where nothing is refused, the entry's body lies inside the book and is the part handed
 -- back; with a refusal the definition is empty, as the part is, and both begin where the book does. Assumes nothing.
-use Prim.Native.Nat.{◌≤◌}
 use native.Mathlib.Omega.{arith}
 use mathlib.Core.Path.{◌≡◌, sym, ◌∙◌}
-use borrow.Author.Rules.{rules}
-use lib.ListN.{length}
 use Rattle.book.specs.declared.BookVerdict.TheVariants.{Good}
-use Rattle.book.specs.Book.{body_end, asked_verdict}
+use Rattle.book.specs.Book.{asked_verdict}
 use Rattle.book.proofs.Bodies.{asked_inside, body_handed}
 use Rattle.book.proofs.Verdicts.{good_long, asked_good, refused_empty}
 use Rattle.book.proofs.Places.{good_place, refused_place, begins_at}
@@ -21,14 +18,6 @@ pub body_end-end-requires : goal.body_end-end-requires
 body_end-end-requires c =
     let g = asked_good c.args.book.now c.args.kind (sym c.parse_answer-verdict.ensures ∙ c.in-Good.is) in
     (good_long c.args.book.now g.0, g.1, g.2)
-
-pub slice_bounds-result-count : goal.slice_bounds-result-count
-slice_bounds-result-count c = omega arith
-
-pub slice_bounds-result-start : goal.slice_bounds-result-start
-slice_bounds-result-start c =
-    let inside = asked_inside c.args.book.now c.args.kind (sym c.parse_answer-verdict.ensures ∙ c.in-Good.is) in
-    omega arith
 
 pub slice_bounds-result-end : goal.slice_bounds-result-end
 slice_bounds-result-end c =

@@ -1,7 +1,6 @@
 -- `book::wrong_bodies` meets its contract: the first body that does not begin where the one before it ends decides, and then
 -- the end of the last. Assumes nothing.
 use mathlib.Core.Path.{sym, ◌∙◌}
-use borrow.Author.Rules.{rules}
 use Rattle.book.proofs.Answers.{bodies_first, bodies_second, bodies_third, bodies_last}
 use Rattle.book.proofs.wrong_bodies.Goals as goal
 

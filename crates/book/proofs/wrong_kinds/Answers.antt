@@ -1,6 +1,5 @@
 -- `book::wrong_kinds` meets its contract: the first kind that is wrong decides. Assumes nothing.
 use mathlib.Core.Path.{sym, ◌∙◌}
-use borrow.Author.Rules.{rules}
 use Rattle.book.proofs.Answers.{kinds_first, kinds_second, kinds_third}
 use Rattle.book.proofs.wrong_kinds.Goals as goal
 

@@ -2,7 +2,6 @@
 -- the book, and is the body that its entry names. Assumes nothing.
 use native.Mathlib.Omega.{arith}
 use mathlib.Core.Path.{sym, ap, ◌∙◌}
-use borrow.Author.Rules.{rules}
 use Rattle.book.specs.Book.{hall_under_two, carriers_not_threes, limits_not_one}
 use Rattle.book.proofs.Answers.{lengths_first, lengths_second, lengths_third}
 use Rattle.book.proofs.Bodies.{passed_consecutive, hall_part, carriers_part, limits_part}
@@ -51,16 +50,6 @@ returns-then-carriers_body_wrong c =
     lengths_second book
     (ap hall_under_two (sym (hall_part book s c.body_end-carriers.result c.body_end-carriers.ensures)) ∙ sym c.hall_body_wrong.ensures ∙ c.if-hall_body_wrong.false)
     (ap carriers_not_threes (sym (carriers_part book s c.body_end-carriers.result c.body_end-limits.result c.body_end-carriers.ensures c.body_end-limits.ensures)) ∙ sym c.carriers_body_wrong.ensures ∙ c.if-carriers_body_wrong.true)
-
-pub slice_bounds-limits_body_wrong-count : goal.slice_bounds-limits_body_wrong-count
-slice_bounds-limits_body_wrong-count c =
-    let s = passed_consecutive c.args.book.now c.requires.1 in
-    omega arith
-
-pub slice_bounds-limits_body_wrong-start : goal.slice_bounds-limits_body_wrong-start
-slice_bounds-limits_body_wrong-start c =
-    let s = passed_consecutive c.args.book.now c.requires.1 in
-    omega arith
 
 pub returns : goal.returns
 returns c =
