@@ -156,6 +156,7 @@ fn limits_body_wrong(body: &[u8]) -> bool
 }
 
 // 'Bodies follow without gaps from byte 16 to the end': each begins where the one before it ends.
+#[tactic(auto, using(crate::proofs::Bodies::passed_consecutive))]
 fn wrong_lengths(book: &[u8]) -> bool
     requires { (16 ≤ length book.now) × (wrong_bodies book.now ≡ false) }
     ensures { result ≡ wrong_lengths book.now }

@@ -1,47 +1,16 @@
 -- `book::wrong_lengths` meets its contract. That 13 is not due says that the bodies are consecutive; so each part lies inside
 -- the book, and is the body that its entry names. Assumes nothing.
-use native.Mathlib.Omega.{arith}
 use mathlib.Core.Path.{sym, ap, ◌∙◌}
 use Rattle.book.specs.Book.{hall_under_two, carriers_not_threes, limits_not_one}
 use Rattle.book.proofs.Answers.{lengths_first, lengths_second, lengths_third}
 use Rattle.book.proofs.Bodies.{passed_consecutive, hall_part, carriers_part, limits_part}
 use Rattle.book.proofs.wrong_lengths.Goals as goal
 
-pub slice_bounds-hall_body_wrong-count : goal.slice_bounds-hall_body_wrong-count
-slice_bounds-hall_body_wrong-count c =
-    let s = passed_consecutive c.args.book.now c.requires.1 in
-    omega arith
-
-pub slice_bounds-hall_body_wrong-start : goal.slice_bounds-hall_body_wrong-start
-slice_bounds-hall_body_wrong-start c =
-    let s = passed_consecutive c.args.book.now c.requires.1 in
-    omega arith
-
-pub slice_bounds-hall_body_wrong-end : goal.slice_bounds-hall_body_wrong-end
-slice_bounds-hall_body_wrong-end c =
-    let s = passed_consecutive c.args.book.now c.requires.1 in
-    omega arith
-
 pub returns-then-hall_body_wrong : goal.returns-then-hall_body_wrong
 returns-then-hall_body_wrong c =
     let book = c.args.book.now in
     let s = passed_consecutive book c.requires.1 in
     lengths_first book (ap hall_under_two (sym (hall_part book s c.body_end-carriers.result c.body_end-carriers.ensures)) ∙ sym c.hall_body_wrong.ensures ∙ c.if-hall_body_wrong.true)
-
-pub slice_bounds-carriers_body_wrong-count : goal.slice_bounds-carriers_body_wrong-count
-slice_bounds-carriers_body_wrong-count c =
-    let s = passed_consecutive c.args.book.now c.requires.1 in
-    omega arith
-
-pub slice_bounds-carriers_body_wrong-start : goal.slice_bounds-carriers_body_wrong-start
-slice_bounds-carriers_body_wrong-start c =
-    let s = passed_consecutive c.args.book.now c.requires.1 in
-    omega arith
-
-pub slice_bounds-carriers_body_wrong-end : goal.slice_bounds-carriers_body_wrong-end
-slice_bounds-carriers_body_wrong-end c =
-    let s = passed_consecutive c.args.book.now c.requires.1 in
-    omega arith
 
 pub returns-then-carriers_body_wrong : goal.returns-then-carriers_body_wrong
 returns-then-carriers_body_wrong c =
