@@ -1,7 +1,6 @@
 pub mod Answers
 pub mod Bodies
 pub mod Example
-pub mod Held
 pub mod Lengths
 pub mod Places
 pub mod Settled

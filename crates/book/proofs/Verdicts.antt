@@ -2,12 +2,10 @@
 -- cases on the tests' Bools and on the six answers. Assumes nothing.
 use Prim.Native.Nat.{ℕ, ◌≤◌}
 use native.Mathlib.Omega.{arith}
-use mathlib.Core.Path.{◌≡◌, refl, sym, subst, ◌∙◌}
+use mathlib.Core.Path.{◌≡◌, refl, sym, ◌∙◌}
 use mathlib.Core.Bool.{Bool, true, false, not}
-use mathlib.Core.List.{List, [], ◌∷◌}
+use mathlib.Core.List.{List, []}
 use borrow.Author.Tests.{ltb-false, le-ltb}
-use denote.Enum.Declared.{tag_of}
-use types.Run.{OneOf, miss}
 use lib.Dec.{ltb, eqb}
 use lib.ListN.{length, get_or}
 use Rattle.lists.specs.Lists.{refuse_if}
@@ -15,12 +13,6 @@ use Rattle.lists.proofs.Tests.{or_fails}
 use Rattle.book.specs.declared.BookVerdict.{BookVerdict}
 use Rattle.book.specs.declared.BookVerdict.TheVariants.{Good, NoContents, WrongKinds, WrongBodies, WrongLengths, NoKind}
 use Rattle.book.specs.Book.{no_contents, wrong_kinds, wrong_bodies, wrong_lengths, book_verdict, no_kind, if_good, asked_verdict, entry_body, body_of}
-use Rattle.book.specs.contracts.BookVerdict.{the_type}
-
--- an answer that the code's `if let` passes by
-pub not_good : (v : BookVerdict) → OneOf (1 ∷ 2 ∷ 3 ∷ 4 ∷ 5 ∷ []) (tag_of the_type v) → v ≡ Good → ⊥
-not_good v k e =
-    miss (1 ∷ 2 ∷ 3 ∷ 4 ∷ 5 ∷ []) 0 tt (subst (λ (w : BookVerdict). OneOf (1 ∷ 2 ∷ 3 ∷ 4 ∷ 5 ∷ []) (tag_of the_type w)) e k)
 
 pub if_refused : {A : Type 0} (v : BookVerdict) (go stop : A) → (v ≡ Good → ⊥) → if_good v go stop ≡ stop
 unfolding if_good

@@ -5,8 +5,7 @@ use Prim.Native.Nat.{ℕ, ◌+◌, ◌-◌}
 use native.Mathlib.Omega.{arith}
 use mathlib.Core.Path.{◌≡◌, refl, sym, ap, ◌∙◌}
 use mathlib.Core.List.{List, [], ◌∷◌, ◌++◌}
-use base.Fml.{GName}
-use denote.Ref.{Bor, MutBor}
+use denote.Ref.{Bor}
 use lib.ListN.{get_or, length, take, drop}
 use Rattle.lists.specs.Lists.{refuse_if}
 use Rattle.book.specs.declared.BookVerdict.TheVariants.{Good, WrongKinds, WrongBodies, WrongLengths, NoKind}
@@ -78,12 +77,12 @@ abbrev horizon_three : List ℕ
 horizon_three = take 33 printed_book ++ (3 ∷ [])
 
 -- a book lent at any place of memory, and the parts of it: `book[a..e]`
-module _ (block first : ℕ) (γ δ : GName) where
-  abbrev lent : List ℕ → MutBor (List ℕ)
-  lent book = record { ref_ptr = (block, first); ghost_name = γ; now = book }
+module _ (block first : ℕ) where
+  abbrev lent : List ℕ → Bor (List ℕ)
+  lent book = record { ref_ptr = (block, first); now = book }
 
   abbrev part : List ℕ → ℕ → ℕ → Bor (List ℕ)
-  part book a e = record { ref_ptr = (block, first + a); ghost_name = δ; now = take (e - a) (drop a book) }
+  part book a e = record { ref_ptr = (block, first + a); now = take (e - a) (drop a book) }
 
   -- kinds counted from 0: the limits for the carriers
   pub limits_for_carriers : Handed (lent printed_book) 2 (part printed_book 33 34) → ⊥
@@ -115,5 +114,5 @@ module _ (block first : ℕ) (γ δ : GName) where
   contents_for_limits h = let z : first + 0 ≡ first + 33 = ap (λ (p : ℕ × ℕ). p.1) h.begins in omega arith
 
   -- a copy of the body in other memory
-  pub copy_for_part : (other at : ℕ) → (other ≡ block → ⊥) → Handed (lent printed_book) 3 (record { ref_ptr = (other, at); ghost_name = δ; now = 4 ∷ [] }) → ⊥
+  pub copy_for_part : (other at : ℕ) → (other ≡ block → ⊥) → Handed (lent printed_book) 3 (record { ref_ptr = (other, at); now = 4 ∷ [] }) → ⊥
   copy_for_part other at apart h = apart (ap (λ (p : ℕ × ℕ). p.0) h.begins)

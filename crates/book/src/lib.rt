@@ -156,6 +156,7 @@ fn limits_body_wrong(body: &[u8]) -> bool
 }
 
 // 'Bodies follow without gaps from byte 16 to the end': each begins where the one before it ends.
+#[tactic(auto, using(crate::proofs::Bodies::passed_consecutive))]
 fn wrong_lengths(book: &[u8]) -> bool
     requires { (16 ≤ length book.now) × (wrong_bodies book.now ≡ false) }
     ensures { result ≡ wrong_lengths book.now }
@@ -251,7 +252,7 @@ pub fn reader_body<'a>(reader: Reader<'a>, kind: u8) -> &'a [u8]
     parse_body(reader.book, kind)
 }
 
-// For every caller that has a plain slice: a reader of it is asked, and the caller needs no walk by hand.
+// For every caller that has a plain slice: a reader of it is asked.
 pub fn judge_asked(book: &[u8], kind: u8) -> BookVerdict
     ensures { result ≡ asked_verdict book.now kind }
 {

@@ -72,7 +72,7 @@ fn carrier_or(carriers: &[Carrier], i: usize) -> Carrier
     }
 }
 
-// Eight records by value as a team. It stands apart since only a function that is lent records has its proof by hand.
+// Eight records by value as a team.
 fn team_of_eight(
     count: usize,
     a: Carrier,
