@@ -1,3 +1,4 @@
 pub mod Forms
 pub mod Padded
+pub mod Thirds
 pub mod Wrong

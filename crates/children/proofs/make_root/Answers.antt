@@ -1,0 +1,24 @@
+-- The record of number 0 with no bar, then the routes, then the record with their sum. Assumes nothing.
+use native.Mathlib.Omega.{arith}
+use borrow.Author.Tests.{not-true, not-false}
+use Rattle.children.proofs.Rooted.{root_record, free_due, not_rooted, root_room, sum_due, rooted}
+use borrow.Author.Rules.{rules}
+use Rattle.children.proofs.make_root.Goals as goal
+
+pub write_record-requires : goal.write_record-requires
+write_record-requires c = root_record c.args.task.capacity c.args.columns.now 0 c.requires.fact_1.capacity_least c.requires.fact_1.capacity_most c.requires.fact_2.0 (omega arith)
+
+pub free_routes-found-requires : goal.free_routes-found-requires
+free_routes-found-requires c = free_due c.args.task c.args.hall.now c.args.columns.now c.args.plans.now c.args.layers.now c.requires.fact_1 c.requires.fact_2.0 c.requires.fact_2.1 c.write_record.new.columns c.write_record.ensures
+
+pub returns-then-not-found : goal.returns-then-not-found
+returns-then-not-found c = not_rooted c.args.task c.args.hall.now c.args.columns.now c.args.plans.now c.args.layers.now c.requires.fact_1 c.requires.fact_2.0 c.requires.fact_2.1 c.write_record.new.columns c.write_record.ensures c.free_routes-found.new.plans c.free_routes-found.new.layers c.free_routes-found.result c.free_routes-found.ensures (not-true c.free_routes-found.result c.if-not-found.true)
+
+pub sum_at-sum-requires : goal.sum_at-sum-requires
+sum_at-sum-requires c = (c.requires.fact_1.count_most, c.requires.fact_1.horizon_most, root_room c.args.task c.args.hall.now c.args.columns.now c.args.plans.now c.args.layers.now c.requires.fact_1 c.requires.fact_2.0 c.requires.fact_2.1 c.write_record.new.columns c.write_record.ensures c.free_routes-found.new.plans c.free_routes-found.new.layers c.free_routes-found.result c.free_routes-found.ensures)
+
+pub write_record-requires-2 : goal.write_record-requires-2
+write_record-requires-2 c = sum_due c.args.task c.args.hall.now c.args.columns.now c.args.plans.now c.args.layers.now c.requires.fact_1 c.requires.fact_2.0 c.requires.fact_2.1 c.write_record.new.columns c.write_record.ensures c.free_routes-found.new.plans c.free_routes-found.new.layers c.free_routes-found.result c.free_routes-found.ensures c.sum_at-sum.result c.sum_at-sum.ensures
+
+pub returns : goal.returns
+returns c = rooted c.args.task c.args.hall.now c.args.columns.now c.args.plans.now c.args.layers.now c.requires.fact_1 c.requires.fact_2.0 c.requires.fact_2.1 c.write_record.new.columns c.write_record.ensures c.free_routes-found.new.plans c.free_routes-found.new.layers c.free_routes-found.result c.free_routes-found.ensures c.sum_at-sum.result c.sum_at-sum.ensures c.write_record-2.new.columns c.write_record-2.ensures (not-false c.free_routes-found.result c.if-not-found.false)
