@@ -66,7 +66,7 @@ pub extern "C" fn adfulmise_plan(
     output: &mut [u8],
     told: &mut [usize],
 ) -> usize
-    ensures { Answered (job_of width height hall.now (records_team carriers.now) h) n (record { columns = columns.entry.now; plans = plans.old; layers = layers.old; output = output.old }) told.old result (record { columns = columns.exit.now; plans = plans.new; layers = layers.new; output = output.new }) told.new }
+    ensures { Answered (job_of width height hall.now (records_team carriers.now) h) n (record { columns = columns.old; plans = plans.old; layers = layers.old; output = output.old }) told.old result (record { columns = columns.new; plans = plans.new; layers = layers.new; output = output.new }) told.new }
 {
     let answer = entry::plan(
         hall, width, height, carriers, h, n, columns, plans, layers, output,

@@ -80,9 +80,9 @@ fn has_route(
     columns: &[u16],
     layers: &mut [u8],
 ) -> bool
-    requires fact_1 { Ready task hall.now layers.old }
-    requires fact_2 { Falls task.capacity columns.now node }
-    requires fact_3 { carrier < task.team.count }
+    requires ready { Ready task hall.now layers.old }
+    requires falls { Falls task.capacity columns.now node }
+    requires in_range { carrier < task.team.count }
     ensures { RouteSought task hall.now columns.now node carrier bar layers.old layers.new result }
 {
     let grid = grid_of(task);
@@ -102,8 +102,8 @@ fn has_route(
 
 // The route that the layers hold, written into the carrier's part of a node's stretch.
 fn put_route(task: Task, carrier: usize, layers: &[u8], into: usize, plans: &mut [u8])
-    requires fact_1 { Readable task carrier layers.now }
-    requires fact_2 { into * (task.team.count * (task.horizon + 1)) + task.team.count * (task.horizon + 1) ≤ length plans.old }
+    requires readable { Readable task carrier layers.now }
+    requires room { into * (task.team.count * (task.horizon + 1)) + task.team.count * (task.horizon + 1) ≤ length plans.old }
     ensures { RoutePut task layers.now into carrier plans.old plans.new }
 {
     let grid = grid_of(task);
@@ -161,10 +161,10 @@ pub fn add_child(
     plans: &mut [u8],
     layers: &mut [u8],
 ) -> Grown
-    requires fact_1 { Ready task hall.now layers.old }
-    requires fact_2 { Sound (job_on task hall.now) task.capacity columns.old plans.old made }
-    requires fact_3 { (node < made) × (carrier < task.team.count) }
-    requires fact_4 { BarSet bar }
+    requires ready { Ready task hall.now layers.old }
+    requires sound { Sound (job_on task hall.now) task.capacity columns.old plans.old made }
+    requires in_range { (node < made) × (carrier < task.team.count) }
+    requires bar_set { BarSet bar }
     ensures kept { Kept task hall.now columns.old plans.old layers.old columns.new plans.new layers.new }
     ensures grown { ChildFact (job_on task hall.now) task.capacity node (record { carrier = carrier; bar = bar }) made columns.old plans.old columns.new plans.new result }
     ensures tables { ChildTables task hall.now node (record { carrier = carrier; bar = bar }) made columns.old plans.old columns.new plans.new layers.new result }
@@ -191,9 +191,9 @@ fn free_route(
     plans: &mut [u8],
     layers: &mut [u8],
 ) -> bool
-    requires fact_1 { Ready task hall.now layers.old }
-    requires fact_2 { (8 * task.capacity ≤ length columns.now) × (plans_length (job_on task hall.now) task.capacity ≤ length plans.old) × (carrier < task.team.count) }
-    requires fact_3 { bar_at task.capacity columns.now 0 ≡ Free }
+    requires ready { Ready task hall.now layers.old }
+    requires room { (8 * task.capacity ≤ length columns.now) × (plans_length (job_on task hall.now) task.capacity ≤ length plans.old) × (carrier < task.team.count) }
+    requires root_free { bar_at task.capacity columns.now 0 ≡ Free }
     ensures { FreeRoute task hall.now carrier plans.old layers.old plans.new layers.new result }
 {
     let found = has_route(hall, task, 0, carrier, Bar::Free, columns, layers);
@@ -212,9 +212,9 @@ fn free_routes(
     plans: &mut [u8],
     layers: &mut [u8],
 ) -> bool
-    requires fact_1 { Ready task hall.now layers.old }
-    requires fact_2 { (8 * task.capacity ≤ length columns.now) × (plans_length (job_on task hall.now) task.capacity ≤ length plans.old) }
-    requires fact_3 { bar_at task.capacity columns.now 0 ≡ Free }
+    requires ready { Ready task hall.now layers.old }
+    requires room { (8 * task.capacity ≤ length columns.now) × (plans_length (job_on task hall.now) task.capacity ≤ length plans.old) }
+    requires root_free { bar_at task.capacity columns.now 0 ≡ Free }
     ensures { FreeRoutes task hall.now plans.old layers.old plans.new layers.new result }
 {
     let team = task.team;
@@ -238,8 +238,8 @@ pub fn make_root(
     plans: &mut [u8],
     layers: &mut [u8],
 ) -> bool
-    requires fact_1 { Ready task hall.now layers.old }
-    requires fact_2 { (8 * task.capacity ≤ length columns.old) × (task.capacity * plan_length (job_on task hall.now) ≤ length plans.old) }
+    requires ready { Ready task hall.now layers.old }
+    requires room { (8 * task.capacity ≤ length columns.old) × (task.capacity * plan_length (job_on task hall.now) ≤ length plans.old) }
     ensures kept { Kept task hall.now columns.old plans.old layers.old columns.new plans.new layers.new }
     ensures rooted { RootFact (job_on task hall.now) task.capacity columns.new plans.new result }
     ensures tables { RootTables task hall.now columns.old plans.old columns.new plans.new layers.new result }

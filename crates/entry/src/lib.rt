@@ -27,7 +27,7 @@ pub fn plan(
     layers: &mut [u8],
     output: &mut [u8],
 ) -> Answer
-    ensures { Planned (job_of width height hall.now (records_team carriers.now) h) n (record { columns = columns.entry.now; plans = plans.old; layers = layers.old; output = output.old }) result (record { columns = columns.exit.now; plans = plans.new; layers = layers.new; output = output.new }) }
+    ensures { Planned (job_of width height hall.now (records_team carriers.now) h) n (record { columns = columns.old; plans = plans.old; layers = layers.old; output = output.old }) result (record { columns = columns.new; plans = plans.new; layers = layers.new; output = output.new }) }
 {
     let team = carriers::team_of_records(carriers);
     planner::plan(

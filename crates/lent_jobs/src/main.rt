@@ -32,7 +32,7 @@ fn plan_lent(
     output: &mut [u8],
 ) -> Answer
     requires { count ≤ 3 }
-    ensures { Planned (job_of width height hall.now (records_team (take count carriers)) h) n (record { columns = columns.entry.now; plans = plans.old; layers = layers.old; output = output.old }) result (record { columns = columns.exit.now; plans = plans.new; layers = layers.new; output = output.new }) }
+    ensures { Planned (job_of width height hall.now (records_team (take count carriers)) h) n (record { columns = columns.old; plans = plans.old; layers = layers.old; output = output.old }) result (record { columns = columns.new; plans = plans.new; layers = layers.new; output = output.new }) }
 {
     entry::plan(
         hall,

@@ -233,7 +233,7 @@ fn job_lines(
     output: &mut [u8],
     out: &mut [u8],
 ) -> usize
-    ensures { Printed (result_text book.now (planned (job_in book.now) n (record { columns = columns.entry.now; plans = plans.old; layers = layers.old; output = output.old }))) (planned (job_in book.now) n (record { columns = columns.entry.now; plans = plans.old; layers = layers.old; output = output.old })).tables out.old result (record { columns = columns.exit.now; plans = plans.new; layers = layers.new; output = output.new }) out.new }
+    ensures { Printed (result_text book.now (planned (job_in book.now) n (record { columns = columns.old; plans = plans.old; layers = layers.old; output = output.old }))) (planned (job_in book.now) n (record { columns = columns.old; plans = plans.old; layers = layers.old; output = output.old })).tables out.old result (record { columns = columns.new; plans = plans.new; layers = layers.new; output = output.new }) out.new }
 {
     let hall = book::body(book, book::HALL);
     let team = carriers::team_of_bytes(book::body(book, book::CARRIERS));
@@ -258,7 +258,7 @@ pub fn book_lines(
     output: &mut [u8],
     out: &mut [u8],
 ) -> usize
-    ensures { Printed (book_text book.now n (record { columns = columns.entry.now; plans = plans.old; layers = layers.old; output = output.old })) (book_tables book.now n (record { columns = columns.entry.now; plans = plans.old; layers = layers.old; output = output.old })) out.old result (record { columns = columns.exit.now; plans = plans.new; layers = layers.new; output = output.new }) out.new }
+    ensures { Printed (book_text book.now n (record { columns = columns.old; plans = plans.old; layers = layers.old; output = output.old })) (book_tables book.now n (record { columns = columns.old; plans = plans.old; layers = layers.old; output = output.old })) out.old result (record { columns = columns.new; plans = plans.new; layers = layers.new; output = output.new }) out.new }
 {
     let verdict = book::judge_book(book);
     if let BookVerdict::Good = verdict {

@@ -67,10 +67,10 @@ fn add_one(
     plans: &mut [u8],
     layers: &mut [u8],
 ) -> Turn
-    requires fact_1 { Ready task hall.now layers.old }
-    requires fact_2 { Sound (job_on task hall.now) task.capacity columns.old plans.old made }
-    requires fact_3 { (node < made) × (carrier < task.team.count) }
-    requires fact_4 { BarSet bar }
+    requires ready { Ready task hall.now layers.old }
+    requires sound { Sound (job_on task hall.now) task.capacity columns.old plans.old made }
+    requires in_range { (node < made) × (carrier < task.team.count) }
+    requires bar_set { BarSet bar }
     ensures kept { Kept task hall.now columns.old plans.old layers.old columns.new plans.new layers.new }
     ensures grown { OneFact (job_on task hall.now) task.capacity node (record { carrier = carrier; bar = bar }) made columns.old plans.old columns.new plans.new result }
 {
@@ -93,10 +93,10 @@ fn add_two(
     plans: &mut [u8],
     layers: &mut [u8],
 ) -> Turn
-    requires fact_1 { Ready task hall.now layers.old }
-    requires fact_2 { Sound (job_on task hall.now) task.capacity columns.old plans.old made }
-    requires fact_3 { node < made }
-    requires fact_4 { BarsFit task bars }
+    requires ready { Ready task hall.now layers.old }
+    requires sound { Sound (job_on task hall.now) task.capacity columns.old plans.old made }
+    requires in_range { node < made }
+    requires bars_fit { BarsFit task bars }
     ensures kept { Kept task hall.now columns.old plans.old layers.old columns.new plans.new layers.new }
     ensures grown { TwoFact (job_on task hall.now) task.capacity node (one_of bars) (two_of bars) made columns.old plans.old columns.new plans.new result }
 {
@@ -122,10 +122,10 @@ fn part(
     plans: &mut [u8],
     layers: &mut [u8],
 ) -> Turn
-    requires fact_1 { Ready task hall.now layers.old }
-    requires fact_2 { Sound (job_on task hall.now) task.capacity columns.old plans.old made }
-    requires fact_3 { node < made }
-    requires fact_4 { BarsFit task bars }
+    requires ready { Ready task hall.now layers.old }
+    requires sound { Sound (job_on task hall.now) task.capacity columns.old plans.old made }
+    requires in_range { node < made }
+    requires bars_fit { BarsFit task bars }
     ensures kept { Kept task hall.now columns.old plans.old layers.old columns.new plans.new layers.new }
     ensures grown { PartFact (job_on task hall.now) task.capacity node (one_of bars) (two_of bars) made columns.old plans.old columns.new plans.new result }
 {
@@ -135,8 +135,8 @@ fn part(
 
 // The cell of a carrier at a step, in a node's stretch.
 fn cell_of(task: Task, node: usize, carrier: usize, step: usize, plans: &[u8]) -> usize
-    requires fact_1 { Placed task plans.now node }
-    requires fact_2 { (carrier < task.team.count) × (step ≤ task.horizon) }
+    requires placed { Placed task plans.now node }
+    requires in_range { (carrier < task.team.count) × (step ≤ task.horizon) }
     ensures { (result ≡ cells_of (routes_in (job_in task) (stretch_at (job_in task) plans.now node)) carrier step) × (result < 256) }
 {
     plans[node * children::stretch_of(task) + carrier * (task.horizon + 1) + step] as usize
@@ -188,10 +188,10 @@ fn split(
     plans: &mut [u8],
     layers: &mut [u8],
 ) -> Turn
-    requires fact_1 { Ready task hall.now layers.old }
-    requires fact_2 { Sound (job_on task hall.now) task.capacity columns.old plans.old made }
-    requires fact_3 { node < made }
-    requires fact_4 { clash ≡ clash_of (job_on task hall.now) (node_at (job_on task hall.now) task.capacity columns.old plans.old node) }
+    requires ready { Ready task hall.now layers.old }
+    requires sound { Sound (job_on task hall.now) task.capacity columns.old plans.old made }
+    requires in_range { node < made }
+    requires clash_found { clash ≡ clash_of (job_on task hall.now) (node_at (job_on task hall.now) task.capacity columns.old plans.old node) }
     ensures kept { Kept task hall.now columns.old plans.old layers.old columns.new plans.new layers.new }
     ensures parted { SplitFact (job_on task hall.now) task.capacity node made columns.old plans.old columns.new plans.new result }
 {
@@ -243,8 +243,8 @@ fn take_turn(
     plans: &mut [u8],
     layers: &mut [u8],
 ) -> Turn
-    requires fact_1 { Ready task hall.now layers.old }
-    requires fact_2 { Sound (job_on task hall.now) task.capacity columns.old plans.old made }
+    requires ready { Ready task hall.now layers.old }
+    requires sound { Sound (job_on task hall.now) task.capacity columns.old plans.old made }
     ensures kept { Kept task hall.now columns.old plans.old layers.old columns.new plans.new layers.new }
     ensures went { TurnFact (job_on task hall.now) task.capacity made columns.old plans.old columns.new plans.new result }
 {
@@ -266,8 +266,8 @@ fn search_all(
     plans: &mut [u8],
     layers: &mut [u8],
 ) -> End
-    requires fact_1 { Ready task hall.now layers.old }
-    requires fact_2 { Sound (job_on task hall.now) task.capacity columns.old plans.old 1 }
+    requires ready { Ready task hall.now layers.old }
+    requires sound { Sound (job_on task hall.now) task.capacity columns.old plans.old 1 }
     ensures kept { Kept task hall.now columns.old plans.old layers.old columns.new plans.new layers.new }
     ensures ended { EndFact (job_on task hall.now) task.capacity (tree_from (job_on task hall.now) task.capacity columns.old plans.old 1) columns.new plans.new result }
 {
@@ -285,8 +285,8 @@ fn search_all(
 
 // The search from its root to its end.
 fn grow(hall: &[u8], task: Task, columns: &mut [u16], plans: &mut [u8], layers: &mut [u8]) -> End
-    requires fact_1 { Ready task hall.now layers.old }
-    requires fact_2 { (8 * task.capacity ≤ length columns.old) × (task.capacity * plan_length (job_on task hall.now) ≤ length plans.old) }
+    requires ready { Ready task hall.now layers.old }
+    requires room { (8 * task.capacity ≤ length columns.old) × (task.capacity * plan_length (job_on task hall.now) ≤ length plans.old) }
     ensures kept { Kept task hall.now columns.old plans.old layers.old columns.new plans.new layers.new }
     ensures ended { EndFact (job_on task hall.now) task.capacity (tree (job_on task hall.now) task.capacity) columns.new plans.new result }
 {
@@ -298,8 +298,8 @@ fn grow(hall: &[u8], task: Task, columns: &mut [u16], plans: &mut [u8], layers: 
 
 // The answer of an end, and for a plan the output: 'carrier by carrier, its cells for steps 0 to H'.
 fn tell(task: Task, end: End, plans: &[u8], output: &mut [u8]) -> Answer
-    requires fact_1 { EndPlaced task plans.now end }
-    requires fact_2 { plan_length (job_in task) ≤ length output.old }
+    requires placed { EndPlaced task plans.now end }
+    requires room { plan_length (job_in task) ≤ length output.old }
     ensures { ToldFact task plans.now output.old output.new end result }
 {
     match end {
@@ -328,8 +328,8 @@ fn layers_of(task: Task) -> usize
 
 // 'After 0, 8 and 9 the named least lengths of the first three tables are all zero and the rest unchanged.'
 fn clear_all(task: Task, columns: &mut [u16], plans: &mut [u8], layers: &mut [u8])
-    requires fact_1 { Limits task }
-    requires fact_2 { (columns_length task.capacity ≤ length columns.old) × (plans_length (job_in task) task.capacity ≤ length plans.old) × (layers_length (job_in task) ≤ length layers.old) }
+    requires limits { Limits task }
+    requires room { (columns_length task.capacity ≤ length columns.old) × (plans_length (job_in task) task.capacity ≤ length plans.old) × (layers_length (job_in task) ≤ length layers.old) }
     ensures { Cleared task columns.old plans.old layers.old columns.new plans.new layers.new }
 {
     let capacity = task.capacity;
@@ -347,9 +347,9 @@ fn run(
     layers: &mut [u8],
     output: &mut [u8],
 ) -> Answer
-    requires fact_1 { Ready task hall.now layers.old }
-    requires fact_2 { Roomy task columns.old plans.old layers.old output.old }
-    ensures { RanFact (job_on task hall.now) task.capacity (record { columns = columns.entry.now; plans = plans.old; layers = layers.old; output = output.old }) result (record { columns = columns.exit.now; plans = plans.new; layers = layers.new; output = output.new }) }
+    requires ready { Ready task hall.now layers.old }
+    requires roomy { Roomy task columns.old plans.old layers.old output.old }
+    ensures { RanFact (job_on task hall.now) task.capacity (record { columns = columns.old; plans = plans.old; layers = layers.old; output = output.old }) result (record { columns = columns.new; plans = plans.new; layers = layers.new; output = output.new }) }
 {
     let end = grow(hall, task, columns, plans, layers);
     let answer = tell(task, end, plans, output);
@@ -367,7 +367,7 @@ enum Lengths {
 // Answer 7: 'the first short table, in document 01's order' (0 columns, 1 plans, 2 layers, 3 output) 'and the length it needed'.
 fn first_short(task: Task, columns: &[u16], plans: &[u8], layers: &[u8], output: &[u8]) -> Lengths
     requires { Limits task }
-    ensures { result ≡ lengths_of (needed_length (job_in task) task.capacity) (first_short (job_in task) task.capacity (record { columns = columns.entry.now; plans = plans.now; layers = layers.now; output = output.now })) }
+    ensures { result ≡ lengths_of (needed_length (job_in task) task.capacity) (first_short (job_in task) task.capacity (record { columns = columns.now; plans = plans.now; layers = layers.now; output = output.now })) }
 {
     let needed = tables::COLUMNS * task.capacity;
     if columns.len() < needed {
@@ -404,7 +404,7 @@ pub fn plan(
     layers: &mut [u8],
     output: &mut [u8],
 ) -> Answer
-    ensures { Planned (job_of width height hall.now team h) n (record { columns = columns.entry.now; plans = plans.old; layers = layers.old; output = output.old }) result (record { columns = columns.exit.now; plans = plans.new; layers = layers.new; output = output.new }) }
+    ensures { Planned (job_of width height hall.now team h) n (record { columns = columns.old; plans = plans.old; layers = layers.old; output = output.old }) result (record { columns = columns.new; plans = plans.new; layers = layers.new; output = output.new }) }
 {
     let verdict = job::judge_job(hall, width, height, team, h, job::wrong_capacity(n));
     if let Verdict::Accepted = verdict {

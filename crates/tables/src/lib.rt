@@ -38,8 +38,8 @@ pub struct Code {
 
 // One node more: it is taken only if its sum is smaller, since its number is greater.
 fn better(columns: &[u16], capacity: usize, best: Least, node: usize) -> Least
-    requires fact_1 { Room capacity columns.now node }
-    requires fact_2 { LeastFact capacity columns.now node best }
+    requires room { Room capacity columns.now node }
+    requires least { LeastFact capacity columns.now node best }
     ensures { LeastFact capacity columns.now (node + 1) result }
 {
     if columns[records::OPEN * capacity + node] == IS_CLOSED {
@@ -123,8 +123,8 @@ pub fn write_record(
     bar: Bar,
     sum: usize,
 )
-    requires fact_1 { Room capacity columns.old node }
-    requires fact_2 { Fitting parent carrier bar sum }
+    requires room { Room capacity columns.old node }
+    requires fitting { Fitting parent carrier bar sum }
     ensures { Recorded capacity columns.old node parent carrier bar sum columns.new }
 {
     let code = code_of(bar);

@@ -15,7 +15,9 @@ pub copy_stretch-requires : goal.copy_stretch-requires
 copy_stretch-requires c = copy_place c.args.task c.args.layers.now c.args.columns.now c.args.plans.now c.args.node c.args.carrier c.args.bar c.args.made c.requires c.stretch_of-size.result c.stretch_of-size.ensures
 
 pub write_record-requires : goal.write_record-requires
-write_record-requires c = record_due c.args.task c.args.layers.now c.args.columns.now c.args.plans.now c.args.node c.args.carrier c.args.bar c.args.made c.requires c.stretch_of-size.result c.stretch_of-size.ensures c.copy_stretch.new.plans c.copy_stretch.ensures c.put_route.new.plans c.put_route.ensures c.sum_at-sum.result c.sum_at-sum.ensures
+write_record-requires c =
+    let facts = record_due c.args.task c.args.layers.now c.args.columns.now c.args.plans.now c.args.node c.args.carrier c.args.bar c.args.made c.requires c.stretch_of-size.result c.stretch_of-size.ensures c.copy_stretch.new.plans c.copy_stretch.ensures c.put_route.new.plans c.put_route.ensures c.sum_at-sum.result c.sum_at-sum.ensures in
+    record { room = facts.0; fitting = facts.1 }
 
 pub returns : goal.returns
 returns c = child_made c.args.task c.args.layers.now c.args.columns.now c.args.plans.now c.args.node c.args.carrier c.args.bar c.args.made c.requires c.stretch_of-size.result c.stretch_of-size.ensures c.copy_stretch.new.plans c.copy_stretch.ensures c.put_route.new.plans c.put_route.ensures c.sum_at-sum.result c.sum_at-sum.ensures c.write_record.new.columns c.write_record.ensures

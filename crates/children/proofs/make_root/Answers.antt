@@ -6,19 +6,29 @@ use borrow.Author.Rules.{rules}
 use Rattle.children.proofs.make_root.Goals as goal
 
 pub write_record-requires : goal.write_record-requires
-write_record-requires c = root_record c.args.task.capacity c.args.columns.now 0 c.requires.fact_1.capacity_least c.requires.fact_1.capacity_most c.requires.fact_2.0 (omega arith)
+write_record-requires c =
+    let facts = root_record c.args.task.capacity c.args.columns.now 0 c.requires.ready.capacity_least c.requires.ready.capacity_most c.requires.room.0 (omega arith) in
+    record { room = facts.0; fitting = facts.1 }
 
 pub free_routes-found-requires : goal.free_routes-found-requires
-free_routes-found-requires c = free_due c.args.task c.args.hall.now c.args.columns.now c.args.plans.now c.args.layers.now c.requires.fact_1 c.requires.fact_2.0 c.requires.fact_2.1 c.write_record.new.columns c.write_record.ensures
+free_routes-found-requires c =
+    let facts = free_due c.args.task c.args.hall.now c.args.columns.now c.args.plans.now c.args.layers.now c.requires.ready c.requires.room.0 c.requires.room.1 c.write_record.new.columns c.write_record.ensures in
+    record { ready = facts.0; room = facts.1.0; root_free = facts.1.1 }
 
 pub returns-then-not-found : goal.returns-then-not-found
-returns-then-not-found c = not_rooted c.args.task c.args.hall.now c.args.columns.now c.args.plans.now c.args.layers.now c.requires.fact_1 c.requires.fact_2.0 c.requires.fact_2.1 c.write_record.new.columns c.write_record.ensures c.free_routes-found.new.plans c.free_routes-found.new.layers c.free_routes-found.result c.free_routes-found.ensures (not-true c.free_routes-found.result c.if-not-found.true)
+returns-then-not-found c =
+    let facts = not_rooted c.args.task c.args.hall.now c.args.columns.now c.args.plans.now c.args.layers.now c.requires.ready c.requires.room.0 c.requires.room.1 c.write_record.new.columns c.write_record.ensures c.free_routes-found.new.plans c.free_routes-found.new.layers c.free_routes-found.result c.free_routes-found.ensures c.if-not-found.true in
+    record { kept = facts.0; rooted = facts.1.0; tables = facts.1.1 }
 
 pub sum_at-sum-requires : goal.sum_at-sum-requires
-sum_at-sum-requires c = (c.requires.fact_1.count_most, c.requires.fact_1.horizon_most, root_room c.args.task c.args.hall.now c.args.columns.now c.args.plans.now c.args.layers.now c.requires.fact_1 c.requires.fact_2.0 c.requires.fact_2.1 c.write_record.new.columns c.write_record.ensures c.free_routes-found.new.plans c.free_routes-found.new.layers c.free_routes-found.result c.free_routes-found.ensures)
+sum_at-sum-requires c = (c.requires.ready.count_most, c.requires.ready.horizon_most, root_room c.args.task c.args.hall.now c.args.columns.now c.args.plans.now c.args.layers.now c.requires.ready c.requires.room.0 c.requires.room.1 c.write_record.new.columns c.write_record.ensures c.free_routes-found.new.plans c.free_routes-found.new.layers c.free_routes-found.result c.free_routes-found.ensures)
 
 pub write_record-requires-2 : goal.write_record-requires-2
-write_record-requires-2 c = sum_due c.args.task c.args.hall.now c.args.columns.now c.args.plans.now c.args.layers.now c.requires.fact_1 c.requires.fact_2.0 c.requires.fact_2.1 c.write_record.new.columns c.write_record.ensures c.free_routes-found.new.plans c.free_routes-found.new.layers c.free_routes-found.result c.free_routes-found.ensures c.sum_at-sum.result c.sum_at-sum.ensures
+write_record-requires-2 c =
+    let facts = sum_due c.args.task c.args.hall.now c.args.columns.now c.args.plans.now c.args.layers.now c.requires.ready c.requires.room.0 c.requires.room.1 c.write_record.new.columns c.write_record.ensures c.free_routes-found.new.plans c.free_routes-found.new.layers c.free_routes-found.result c.free_routes-found.ensures c.sum_at-sum.result c.sum_at-sum.ensures in
+    record { room = facts.0; fitting = facts.1 }
 
 pub returns : goal.returns
-returns c = rooted c.args.task c.args.hall.now c.args.columns.now c.args.plans.now c.args.layers.now c.requires.fact_1 c.requires.fact_2.0 c.requires.fact_2.1 c.write_record.new.columns c.write_record.ensures c.free_routes-found.new.plans c.free_routes-found.new.layers c.free_routes-found.result c.free_routes-found.ensures c.sum_at-sum.result c.sum_at-sum.ensures c.write_record-2.new.columns c.write_record-2.ensures (not-false c.free_routes-found.result c.if-not-found.false)
+returns c =
+    let facts = rooted c.args.task c.args.hall.now c.args.columns.now c.args.plans.now c.args.layers.now c.requires.ready c.requires.room.0 c.requires.room.1 c.write_record.new.columns c.write_record.ensures c.free_routes-found.new.plans c.free_routes-found.new.layers c.free_routes-found.result c.free_routes-found.ensures c.sum_at-sum.result c.sum_at-sum.ensures c.write_record-2.new.columns c.write_record-2.ensures c.if-not-found.false in
+    record { kept = facts.0; rooted = facts.1.0; tables = facts.1.1 }

@@ -9,7 +9,7 @@ pub loop-node-init : goal.loop-node-init
 loop-node-init c = (omega arith, among_none c.args.capacity c.args.columns.now)
 
 pub better-best-requires : goal.better-best-requires
-better-best-requires c = record { fact_1 = record { inside = omega arith; small = omega arith; long = omega arith }; fact_2 = c.loop-node.invariant.1 }
+better-best-requires c = record { room = record { inside = omega arith; small = omega arith; long = omega arith }; least = c.loop-node.invariant.1 }
 
 pub overflow_step-node : goal.overflow_step-node
 overflow_step-node c = omega arith
