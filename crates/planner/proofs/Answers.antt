@@ -16,7 +16,6 @@ use Rattle.job.specs.declared.Verdict.{Verdict}
 use Rattle.job.specs.declared.Verdict.TheVariants.{Accepted}
 use Rattle.job.proofs.Accepted.{Facts, accepted_facts, plan_small}
 use Rattle.job.proofs.Due.{open_exact, capacity_exact}
-use Rattle.job.proofs.Refused.{Refusal, refusal_refuses}
 use Rattle.tree.specs.Tree.{tree}
 use Rattle.tables.specs.Tables.{Tables, plans_length, layers_length, lent_length, needed_length, first_short, FirstShort, LongTables}
 use Rattle.tables.proofs.LongTables.{LengthsFact, lengths_fact, short_not_long, long_exact, short_one}
@@ -200,9 +199,9 @@ module _ (job : Job) (capacity : ℕ) (ts : Tables) where
     judged : judge_with (wrong_capacity capacity) job ≡ v
     judged = ap (λ (b : Bool). judge_with b job) (sym of-n) ∙ sym is
 
-    pub planned_refusal : Refusal v → Planned job capacity ts (Refused v) ts
+    pub planned_refusal : (v ≡ Accepted → ⊥) → Planned job capacity ts (Refused v) ts
     planned_refusal k =
-        let e = planned_refused job capacity ts (λ a. refusal_refuses v k (sym judged ∙ a)) in
+        let e = planned_refused job capacity ts (λ a. k (sym judged ∙ a)) in
         settled (Refused v) ts (rw (e, judged) refl) (rw e refl)
 
     module _ (yes-to : v ≡ Accepted) where
