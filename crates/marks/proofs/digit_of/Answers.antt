@@ -3,9 +3,5 @@ use Rattle.marks.proofs.Digits.{weight}
 use borrow.Author.Rules.{rules}
 use Rattle.marks.proofs.digit_of.Goals as goal
 
--- TODO no goal for array-read-result
--- array-read-result : tie.Need-array-read-result
--- array-read-result c = search rules
-
 pub returns : goal.returns
 returns c = weight c.args.m c.requires

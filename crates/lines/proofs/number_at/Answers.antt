@@ -1,0 +1,12 @@
+-- Past the end `get_or` gives 0 too. Assumes nothing.
+use native.Mathlib.Omega.{arith}
+use mathlib.Core.Path.{sym}
+use lib.ListN.{get_or-eq_default}
+use borrow.Author.Rules.{rules}
+use Rattle.lines.proofs.number_at.Goals as goal
+
+pub overflow_cast-result : goal.overflow_cast-result
+overflow_cast-result c = omega (arith, c.shared_slice_known-1.given c.args.at)
+
+pub returns : goal.returns
+returns c = sym (get_or-eq_default c.args.body.now 0 c.if-at-body.false)
