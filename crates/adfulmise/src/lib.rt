@@ -1,5 +1,5 @@
 // The planner, the two plan checks and the book reader for C and Rust: numbers, and slices of numbers and of carrier records.
-// `include/adfulmise.h` says the same for C. No function asks anything of its caller.
+// Crate adfulmise_c exports them, and `include/adfulmise.h` says the same for C. No function asks anything of its caller.
 #![tactic(auto)]
 
 ghost use Rattle.std.specs.Prelude.{◌≡◌};

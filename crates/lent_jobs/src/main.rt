@@ -13,9 +13,9 @@ ghost use Rattle.planner.specs.Post.{Planned};
 use carriers::Carrier;
 use clashes::MeetingVerdict;
 use job::Team;
-use libc::STDOUT_FILENO;
 use planner::Answer;
 use routes::RouteVerdict;
+use std::io;
 
 // Three records by value, the first `count` of them lent to the planner.
 fn plan_lent(
@@ -120,14 +120,14 @@ fn team_of(carriers: [Carrier; 3], count: usize) -> Team {
     }
 }
 
-fn show_number(word: &[u8], number: usize) {
-    io::write_all(STDOUT_FILENO, word);
-    io::print_decimal(STDOUT_FILENO, number as u64);
-    io::write_all(STDOUT_FILENO, b"\n");
+fn show_number(rt: &impl Print, word: &[u8], number: usize) -> io::Result<()> {
+    rt.write_all(word)?;
+    println!(rt; "{number}")
 }
 
 // Both checks on a plan.
 fn show_checks(
+    rt: &impl Print,
     hall: &[u8],
     width: usize,
     height: usize,
@@ -135,17 +135,18 @@ fn show_checks(
     count: usize,
     h: usize,
     plan: &[u8],
-)
+) -> io::Result<()>
     requires { count ≤ 3 }
 {
     let routes = told::route_told(routes_lent(hall, width, height, carriers, count, h, plan));
-    show_number(b"routes ", routes.number);
+    show_number(rt, b"routes ", routes.number)?;
     let meetings = told::meeting_told(meetings_lent(hall, width, height, carriers, count, h, plan));
-    show_number(b"meetings ", meetings.number);
+    show_number(rt, b"meetings ", meetings.number)
 }
 
 // Columns of the greatest length for N = 128, and plans of that for N = 16: for N = 128 they are enough here.
 fn show(
+    rt: &impl Print,
     hall: &[u8],
     width: usize,
     height: usize,
@@ -153,7 +154,7 @@ fn show(
     count: usize,
     h: usize,
     n: usize,
-)
+) -> io::Result<()>
     requires { count ≤ 3 }
 {
     let mut columns = [0u16; 1024];
@@ -175,9 +176,9 @@ fn show(
     );
     let mut out = [0u8; 4096];
     let end = lines::answer_lines(answer, team_of(carriers, count), h, &output, &mut out);
-    io::write_all(STDOUT_FILENO, &out[..end]);
-    show_checks(hall, width, height, carriers, count, h, &output);
-    io::write_all(STDOUT_FILENO, b"\n");
+    rt.write_all(&out[..end])?;
+    show_checks(rt, hall, width, height, carriers, count, h, &output)?;
+    rt.write_all(b"\n")
 }
 
 // From a start to a goal, with a slip.
@@ -186,6 +187,7 @@ fn goes(start: u8, goal: u8, slip: u8) -> Carrier {
 }
 
 fn show_pair(
+    rt: &impl Print,
     hall: &[u8],
     width: usize,
     height: usize,
@@ -193,32 +195,33 @@ fn show_pair(
     two: Carrier,
     h: usize,
     n: usize,
-) {
-    show(hall, width, height, [one, two, goes(0, 0, 0)], 2, h, n);
+) -> io::Result<()> {
+    show(rt, hall, width, height, [one, two, goes(0, 0, 0)], 2, h, n)
 }
 
-fn main() {
+fn main(rt: HostRuntime) -> io::Result<()> {
     // 3 by 3, 3→5 and 1→7, H 4: slips 0 with N 3 and N 2, and slips 1.
-    show_pair(b".........", 3, 3, goes(3, 5, 0), goes(1, 7, 0), 4, 3);
-    show_pair(b".........", 3, 3, goes(3, 5, 0), goes(1, 7, 0), 4, 2);
-    show_pair(b".........", 3, 3, goes(3, 5, 1), goes(1, 7, 1), 4, 3);
+    show_pair(&rt, b".........", 3, 3, goes(3, 5, 0), goes(1, 7, 0), 4, 3)?;
+    show_pair(&rt, b".........", 3, 3, goes(3, 5, 0), goes(1, 7, 0), 4, 2)?;
+    show_pair(&rt, b".........", 3, 3, goes(3, 5, 1), goes(1, 7, 1), 4, 3)?;
     // Width 3, height 1, 0→2 and 2→0, slips 0, H 2.
-    show_pair(b"...", 3, 1, goes(0, 2, 0), goes(2, 0, 0), 2, 8);
+    show_pair(&rt, b"...", 3, 1, goes(0, 2, 0), goes(2, 0, 0), 2, 8)?;
     // Width 2, height 1, 0→1 and 1→0, slips 0, H 1.
-    show_pair(b"..", 2, 1, goes(0, 1, 0), goes(1, 0, 0), 1, 8);
+    show_pair(&rt, b"..", 2, 1, goes(0, 1, 0), goes(1, 0, 0), 1, 8)?;
     // Width 3, height 1, 0→1 and 1→2: slips 0 and 1 with H 1, slips 1 with H 2.
-    show_pair(b"...", 3, 1, goes(0, 1, 0), goes(1, 2, 0), 1, 8);
-    show_pair(b"...", 3, 1, goes(0, 1, 1), goes(1, 2, 1), 1, 8);
-    show_pair(b"...", 3, 1, goes(0, 1, 1), goes(1, 2, 1), 2, 8);
+    show_pair(&rt, b"...", 3, 1, goes(0, 1, 0), goes(1, 2, 0), 1, 8)?;
+    show_pair(&rt, b"...", 3, 1, goes(0, 1, 1), goes(1, 2, 1), 1, 8)?;
+    show_pair(&rt, b"...", 3, 1, goes(0, 1, 1), goes(1, 2, 1), 2, 8)?;
     // Width 4, height 2, 6→2 and 0→3, slips 0, H 3.
-    show_pair(b"........", 4, 2, goes(6, 2, 0), goes(0, 3, 0), 3, 8);
+    show_pair(&rt, b"........", 4, 2, goes(6, 2, 0), goes(0, 3, 0), 3, 8)?;
     // Document 02, P1: one start, one goal, both, and a table too short: with N 129 the columns need 1,032 entries, and 1,024 are lent.
-    show_pair(b"...", 3, 1, goes(0, 1, 0), goes(0, 2, 0), 2, 8);
-    show_pair(b"...", 3, 1, goes(0, 2, 0), goes(1, 2, 0), 2, 8);
-    show_pair(b"...", 3, 1, goes(0, 2, 0), goes(0, 2, 0), 2, 8);
-    show_pair(b"...", 3, 1, goes(0, 1, 0), goes(1, 2, 0), 1, 129);
+    show_pair(&rt, b"...", 3, 1, goes(0, 1, 0), goes(0, 2, 0), 2, 8)?;
+    show_pair(&rt, b"...", 3, 1, goes(0, 2, 0), goes(1, 2, 0), 2, 8)?;
+    show_pair(&rt, b"...", 3, 1, goes(0, 2, 0), goes(0, 2, 0), 2, 8)?;
+    show_pair(&rt, b"...", 3, 1, goes(0, 1, 0), goes(1, 2, 0), 1, 129)?;
     // Document 02, P2: 4 by 4, 4→7 and 1→13, and 5 by 3, 5→9 and 2→12, slips 2, H 10.
     show_pair(
+        &rt,
         b"................",
         4,
         4,
@@ -226,8 +229,9 @@ fn main() {
         goes(1, 13, 2),
         10,
         16,
-    );
+    )?;
     show_pair(
+        &rt,
         b"...............",
         5,
         3,
@@ -235,13 +239,14 @@ fn main() {
         goes(2, 12, 2),
         10,
         16,
-    );
+    )?;
     // Document 02, P3: 4 by 2, 0→3 and 3→0, H 8, slips 0 and 1, then 1 and 0; width 3, height 1, 0→2 and 2→0, slips 0 and 1, H 6; 3 by 3,
     // 3→5, 1→7 and 8→0, slips 2, 0 and 1, H 10; and a slip of 5, which is wrong.
-    show_pair(b"........", 4, 2, goes(0, 3, 0), goes(3, 0, 1), 8, 128);
-    show_pair(b"........", 4, 2, goes(0, 3, 1), goes(3, 0, 0), 8, 128);
-    show_pair(b"...", 3, 1, goes(0, 2, 0), goes(2, 0, 1), 6, 128);
+    show_pair(&rt, b"........", 4, 2, goes(0, 3, 0), goes(3, 0, 1), 8, 128)?;
+    show_pair(&rt, b"........", 4, 2, goes(0, 3, 1), goes(3, 0, 0), 8, 128)?;
+    show_pair(&rt, b"...", 3, 1, goes(0, 2, 0), goes(2, 0, 1), 6, 128)?;
     show(
+        &rt,
         b".........",
         3,
         3,
@@ -249,6 +254,6 @@ fn main() {
         3,
         10,
         128,
-    );
-    show_pair(b"...", 3, 1, goes(0, 1, 0), goes(1, 2, 5), 1, 8);
+    )?;
+    show_pair(&rt, b"...", 3, 1, goes(0, 1, 0), goes(1, 2, 5), 1, 8)
 }

@@ -1,12 +1,30 @@
 // Document 01: the program reads standard input, 'uses N = 128 and prints.' P3: 'the program reads at most 300 bytes'.
 #![tactic(auto)]
 
-use libc::{STDIN_FILENO, STDOUT_FILENO};
+ghost use Rattle.std.specs.Prelude.{◌≤◌, IfOk, length};
 
-fn main() {
+use std::io;
+use std::io::Read;
+
+// Reads until the buffer is full or the input ends, and returns how many bytes it put at the start of the buffer.
+fn read_full(input: &mut impl Read, buffer: &mut [u8]) -> io::Result<usize>
+    ensures { IfOk result (λ size. size ≤ length buffer.new) }
+{
+    let mut size = 0;
+    while size < buffer.len() {
+        let count = input.read(&mut buffer[size..])?;
+        if count == 0 {
+            break;
+        }
+        size += count;
+    }
+    Ok(size)
+}
+
+fn main(rt: HostRuntime) -> io::Result<()> {
     let mut book = [0u8; 300];
-    let size = io::read_full(STDIN_FILENO, &mut book);
+    let size = read_full(&mut rt.stdin(), &mut book)?;
     let mut out = [0u8; lines::PAGE];
     let end = lines::program_lines(&book[..size], &mut out);
-    io::write_all(STDOUT_FILENO, &out[..end]);
+    rt.write_all(&out[..end])
 }

@@ -1,4 +1,5 @@
-// The best route of a carrier as a C function, for the benchmark: its arguments are looked at here, so that any may be handed in.
+// The best route of a carrier as a C function, for the benchmark: its arguments are looked at here, so that any may be handed in. Crate
+// route_bench_c exports it.
 #![tactic(auto)]
 
 ghost use Rattle.std.specs.Prelude.{◌*◌, ◌≤◌, ◌<◌, length};

@@ -6,7 +6,7 @@
 
 ghost use Rattle.std.specs.Prelude.{◌+◌, ◌≤◌, ◌<◌};
 
-const STDOUT: i32 = 1;
+use std::io;
 
 const ROUNDS: usize = 600;
 
@@ -722,17 +722,17 @@ fn all_rounds() -> Seen {
     seen
 }
 
-fn show(n: usize, text: &[u8]) {
-    io::print_decimal(STDOUT, n as u64);
-    io::write_all(STDOUT, text);
+fn show(rt: &impl Print, n: usize, text: &[u8]) -> io::Result<()> {
+    print!(rt; "{n}")?;
+    rt.write_all(text)
 }
 
-fn main() {
+fn main(rt: HostRuntime) -> io::Result<()> {
     let seen = all_rounds();
-    show(ROUNDS, b" routes compared, ");
-    show(seen.differ, b" differ\n");
-    show(seen.found, b" found, ");
-    show(seen.barred, b" changed by bars, ");
-    show(seen.crossed, b" by crossings\n");
-    show(seen.older, b" would be others by document 01's rule\n");
+    show(&rt, ROUNDS, b" routes compared, ")?;
+    show(&rt, seen.differ, b" differ\n")?;
+    show(&rt, seen.found, b" found, ")?;
+    show(&rt, seen.barred, b" changed by bars, ")?;
+    show(&rt, seen.crossed, b" by crossings\n")?;
+    show(&rt, seen.older, b" would be others by document 01's rule\n")
 }

@@ -3,9 +3,11 @@
 // are followed by an empty line. The comparison stops at the first book whose lines differ.
 #![tactic(auto)]
 
-ghost use Rattle.std.specs.Prelude.{◌≤◌, ◌<◌};
+ghost use Rattle.std.specs.Prelude.{◌≤◌, ◌<◌, IfOk, length};
 
-use libc::STDOUT_FILENO;
+use std::fs::File;
+use std::io;
+use std::io::Read;
 
 const CAPACITY: usize = 128;
 
@@ -85,7 +87,7 @@ fn compare(book: &[u8], expected: &[u8]) -> usize {
     );
     let ended = text::put_byte(&mut out, end, NEWLINE);
     let given = part(&out, 0, ended);
-    if check::same(given, part(expected, 0, ended)) {
+    if given == part(expected, 0, ended) {
         return ended;
     }
     0
@@ -144,19 +146,29 @@ fn compare_all(books: &[u8], expected: &[u8]) -> Walk {
     walk
 }
 
-fn main() {
-    let mut books = io::large_buffer();
-    let books_size = io::read_full(os::open_read(b"books"), &mut books);
-    let mut expected = io::large_buffer();
-    let expected_size = io::read_full(os::open_read(b"expected"), &mut expected);
+// Reads until the buffer is full or the file ends, and returns how many bytes it put at the start of the buffer.
+fn read_full(file: &mut impl Read, buffer: &mut [u8]) -> io::Result<usize>
+    ensures { IfOk result (λ size. size ≤ length buffer.new) }
+{
+    let mut size = 0;
+    while size < buffer.len() {
+        let count = file.read(&mut buffer[size..])?;
+        if count == 0 {
+            break;
+        }
+        size += count;
+    }
+    Ok(size)
+}
+
+fn main(rt: HostRuntime) -> io::Result<()> {
+    let mut books = [0u8; 65536];
+    let books_size = read_full(&mut File::open(&rt, "books")?, &mut books)?;
+    let mut expected = [0u8; 65536];
+    let expected_size = read_full(&mut File::open(&rt, "expected")?, &mut expected)?;
     let walk = compare_all(&books[..books_size], &expected[..expected_size]);
-    io::print_decimal(STDOUT_FILENO, walk.compared as u64);
-    io::write_all(STDOUT_FILENO, b" books, ");
-    io::print_decimal(STDOUT_FILENO, walk.differ as u64);
-    io::write_all(STDOUT_FILENO, b" differ, ");
-    io::print_decimal(
-        STDOUT_FILENO,
-        (expected_size - forward(0, walk.line, expected_size)) as u64,
-    );
-    io::write_all(STDOUT_FILENO, b" bytes of lines left\n");
+    let compared = walk.compared;
+    let differ = walk.differ;
+    let left = expected_size - forward(0, walk.line, expected_size);
+    println!(rt; "{compared} books, {differ} differ, {left} bytes of lines left")
 }
