@@ -29,15 +29,15 @@ unfolding Tells
 tells_same P Q true to from p = to p
 tells_same P Q false to from n = λ q. n (from q)
 
--- where a test that was turned round went
-pub holds : (P : Type 0) (b : Bool) → Tells P b → not b ≡ false → P
+-- what a test tells, where it held and where it failed
+pub holds : (P : Type 0) (b : Bool) → Tells P b → b ≡ true → P
 unfolding Tells
 holds P true t e = t
-holds P false t e = absurd (true≢false e)
+holds P false t e = absurd (true≢false (sym e))
 
-pub fails : (P : Type 0) (b : Bool) → Tells P b → not b ≡ true → P → ⊥
+pub fails : (P : Type 0) (b : Bool) → Tells P b → b ≡ false → P → ⊥
 unfolding Tells
-fails P true t e p = true≢false (sym e)
+fails P true t e p = true≢false e
 fails P false t e p = t p
 
 -- below y + 1 as below y and at y
