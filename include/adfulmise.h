@@ -10,7 +10,7 @@
  * caller, at most ADFULMISE_PLAN_STACK(n) bytes for adfulmise_plan and ADFULMISE_OTHER_STACK bytes for each of the others; what the
  * thread itself or a signal handler takes comes on top. Nothing looks whether the stack suffices.
  *
- * Build it with `rt staticlib adfulmise`, which writes target/staticlib/libadfulmise.a. A whole caller in C is
+ * Build it with `tools/build adfulmise`, which writes target/staticlib/libadfulmise.a. A whole caller in C is
  * library/examples/plan_job.c.
  * docs/BOOK.md has jobs, books, numbers and tables on one page, with an example.
  *

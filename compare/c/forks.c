@@ -1,6 +1,6 @@
 /*
- * Loaded into a program in front of its start (ld.so --preload), so that the program is loaded once and run on many inputs: starting
- * the emulator anew takes far longer than a run.
+ * Loaded into a program in front of its start (LD_PRELOAD), so that the program is loaded once and run on many inputs: starting it anew
+ * takes far longer than a run.
  *
  * Until standard input ends: reads an input, its length and its bytes, and forks. The child goes on into the program with the input
  * as its standard input. When it has ended, its wait status, and the length and the bytes of what it wrote to standard output and to

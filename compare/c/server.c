@@ -1,5 +1,5 @@
 /*
- * Calls the library for the comparer, which cannot link it where the machine is of another kind.
+ * Calls the library for the comparer, in a process of its own: a call that reads or writes beyond what it is lent ends this one alone.
  *
  * Until standard input ends: reads a call, lends memory of exactly the lengths it names, calls the library, and writes the number
  * given back and all lent memory, read or written, to standard output. Numbers have 8 bytes, low byte first.

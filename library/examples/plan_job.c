@@ -1,7 +1,7 @@
 /*
  * Plans a job, checks the plan and prints it: document 01's first job, two carriers that cross in a hall of 3 by 3.
  *
- * With a system's compiler for x86-64, after `rt staticlib adfulmise`, in the repository:
+ * With a system's compiler for x86-64, after `tools/build adfulmise`, in the repository:
  *     cc -std=c11 -I include library/examples/plan_job.c target/staticlib/libadfulmise.a -o plan_job
  * or, once `tools/install PREFIX` has put the library under PREFIX, with PKG_CONFIG_PATH=PREFIX/lib/pkgconfig:
  *     cc -std=c11 plan_job.c $(pkg-config --cflags --libs adfulmise) -o plan_job
