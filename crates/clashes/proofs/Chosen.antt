@@ -1,7 +1,7 @@
 -- What rule 5's choice tells: a clash that was chosen happens, and where none was, the carriers are apart. The chosen clash
 -- is the first candidate that passes the tests, and every meeting and swap is, in one of its two readings, a candidate.
 -- Assumes nothing.
-use Prim.Native.Nat.{ℕ, ◌+◌, ◌≤◌, ◌<◌}
+use Prim.Native.Nat.{ℕ, ◌+◌, ◌<◌}
 use mathlib.Core.Path.{◌≡◌, refl, sym, subst}
 use mathlib.Core.Option.{Option, none, some}
 use native.Mathlib.Omega.{arith}

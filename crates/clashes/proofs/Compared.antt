@@ -9,7 +9,7 @@ use mathlib.Core.List.{List}
 use native.Mathlib.Nat.{mul-le-mul_right, suc-mul}
 use native.Mathlib.Omega.{arith}
 use native.Mathlib.Decide.{ℕ_discrete}
-use lib.Dec.{T, eqb, eqb→eq, T_not, not_T}
+use lib.Dec.{eqb, eqb→eq, T_not, not_T}
 use borrow.Author.Tests.{eq-eqb, ne_eqb}
 use Rattle.lists.proofs.Tests.{is_false, of_true, same_test}
 use Rattle.clashes.specs.Clash.{Travel}

@@ -4,12 +4,10 @@
 -- Assumes nothing.
 use Prim.Native.Nat.{ℕ, ◌+◌, ◌-◌, ◌≤◌, ◌<◌, min}
 use mathlib.Core.Path.{◌≡◌, refl, sym, ◌∙◌}
-use mathlib.Core.Logic.{◌⊎◌, ⊎_elim}
 use mathlib.Core.Option.{Option, none, some}
 use native.Mathlib.Omega.{arith}
 use native.Mathlib.Decide.{ℕ_discrete}
 use lib.Dec.{T}
-use denote.Enum.Declared.{declared, tag_of}
 use Rattle.lists.specs.Lists.{greatest, first_of}
 use Rattle.lists.proofs.Passing.{FirstFact}
 use Rattle.clashes.specs.Clash.{Travel}
@@ -18,12 +16,10 @@ use Rattle.clashes.specs.Find.{first_other, FirstSwap}
 use Rattle.clashes.specs.First.{NotLater}
 use Rattle.clashes.specs.declared.Clash.{Clash}
 use Rattle.clashes.specs.declared.Clash.TheVariants.{Clear, Meeting, Swap}
-use Rattle.clashes.specs.contracts.Clash.{enum}
 use Rattle.clashes.proofs.Tests.{meets_tells}
 use Rattle.clashes.proofs.Compared.{other_now, other_later}
 use Rattle.clashes.proofs.Candidates.{Listed, first_passed}
 use Rattle.clashes.proofs.First.{first_chosen}
-
 
 module _ (v : Travel) (m : ℕ) where
   -- every clash that happens comes at c or later

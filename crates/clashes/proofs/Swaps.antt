@@ -11,7 +11,6 @@ use Rattle.lists.proofs.Tests.{of_true, of_false}
 use Rattle.clashes.specs.Clash.{Travel}
 use Rattle.clashes.specs.Chosen.{swaps}
 use Rattle.clashes.specs.Find.{FirstSwap}
-use Rattle.clashes.specs.declared.Clash.{Clash}
 use Rattle.clashes.specs.declared.Clash.TheVariants.{Clear, Swap}
 use Rattle.clashes.proofs.Tests.{swaps_tells}
 

@@ -1,6 +1,6 @@
 -- A pass, layer by layer from its first step back to 0: what is made is never written again, what is still to be made is as it was, and one
 -- half of the slate holds the layer made last. Assumes nothing.
-use Prim.Native.Nat.{ℕ, ◌+◌, ◌-◌, ◌*◌, max, ◌≤◌, ◌<◌}
+use Prim.Native.Nat.{ℕ, ◌+◌, ◌*◌, max, ◌≤◌, ◌<◌}
 use native.Mathlib.Omega.{arith}
 use native.Mathlib.Decide.{ℕ_discrete}
 use native.Mathlib.Nat.{add-mul, one-mul}
@@ -11,7 +11,7 @@ use lib.ListN.{length, get_or}
 use Rattle.lists.proofs.Parts.{part_within}
 use Rattle.lent.specs.Lent.{SameFrom}
 use Rattle.lent.specs.Made.{Made}
-use Rattle.hall.specs.Hall.{size, is_open}
+use Rattle.hall.specs.Hall.{is_open}
 use Rattle.hall.specs.declared.Grid.{Grid}
 use Rattle.hall.proofs.HallCode.{area_small, layers_small}
 use Rattle.marks.proofs.Bearings.{max_assoc}

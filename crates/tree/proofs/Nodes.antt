@@ -4,7 +4,7 @@
 use Prim.Native.Nat.{ℕ, zero, suc, ◌+◌, ◌≤◌, ◌<◌}
 use native.Mathlib.Omega.{arith}
 use native.Mathlib.Decide.{ℕ_discrete}
-use native.Mathlib.Nat.{le_refl, add-zero, zero-add, add-suc, suc-add}
+use native.Mathlib.Nat.{add-zero, zero-add, add-suc, suc-add}
 use mathlib.Core.Path.{◌≡◌, refl, sym, ap, subst, ◌∙◌}
 use mathlib.Core.Logic.{inl}
 use mathlib.Core.List.{List, [], ◌∷◌, ◌++◌}
@@ -22,7 +22,7 @@ use Rattle.routes.proofs.Binds.{own_bar_binds, other_bar_binds_not, obeys_one_mo
 use Rattle.routes.specs.declared.Bar.{Bar}
 use Rattle.clashes.specs.declared.Clash.{Clash}
 use Rattle.clashes.specs.declared.Clash.TheVariants.{Clear, Meeting, Swap}
-use Rattle.tree.specs.Plan.{Routes, route_of, cells_of, travels, total, Family}
+use Rattle.tree.specs.Plan.{Routes, route_of, travels, total, Family}
 use Rattle.tree.specs.Tree.{Node, route_under, with_route, free_routes, root_of, root, node_sum, clash_of, bar_one, bar_two, child_with, child, kids_for, kids}
 use Rattle.clashes.specs.First.{ChosenFact}
 use Rattle.clashes.proofs.Chosen.{chosen_fact}

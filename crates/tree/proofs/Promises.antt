@@ -15,7 +15,7 @@ use Rattle.search.specs.Search.{done}
 use Rattle.search.proofs.Goes.{Goes, search_goes}
 use Rattle.search.proofs.Least.{found_least, spent_none}
 use Rattle.search.proofs.Need.{need_exists}
-use Rattle.tree.specs.Plan.{Routes, cells_of, travels, total, Family, IsPlan, IsSafe}
+use Rattle.tree.specs.Plan.{Routes, travels, total, Family, IsPlan, IsSafe}
 use Rattle.tree.specs.Tree.{Node, root, node_sum, clash_of, is_clear, node_clear, kids, tree}
 use Rattle.tree.specs.Promises.{LeastPlan, NoneExists, NeedIs, Need}
 use Rattle.tree.proofs.Nodes.{Good, In, clash_fact, kids_good, sum_bounds, root_good, root_covers, root-length}

@@ -1,7 +1,6 @@
 -- Where nothing is refused, the body's place is told; with a refusal, an empty part. Assumes nothing.
 use mathlib.Core.Path.{sym, ◌∙◌}
 use Rattle.adfulmise.proofs.Reading.{read_good, read_refused}
-use borrow.Author.Rules.{rules}
 use Rattle.adfulmise.proofs.adfulmise_read.Goals as goal
 
 pub body_offset-offset-requires : goal.body_offset-offset-requires

@@ -6,7 +6,6 @@ use mathlib.Core.Path.{ap, ◌∙◌}
 use lib.ListN.{length}
 use Rattle.book.specs.Book.{body_of}
 use Rattle.adfulmise.proofs.Reading.{offset_hall, offset_carriers, offset_limits, lengths_inside}
-use borrow.Author.Rules.{rules}
 use Rattle.adfulmise.proofs.body_offset.Goals as goal
 
 pub returns-then-kind-eq-HALL : goal.returns-then-kind-eq-HALL

@@ -2,7 +2,6 @@
 use mathlib.Core.Path.{ap, ◌∙◌}
 use Rattle.job.specs.declared.Told.{Told}
 use Rattle.adfulmise.specs.Lent.{written, told_values}
-use borrow.Author.Rules.{rules}
 use Rattle.adfulmise.proofs.tell_answer.Goals as goal
 
 pub returns : goal.returns

@@ -2,7 +2,6 @@
 use mathlib.Core.Path.{refl}
 use Rattle.clashes.specs.Check.{meeting_told}
 use Rattle.adfulmise.proofs.LentLaws.{checked}
-use borrow.Author.Rules.{rules}
 use Rattle.adfulmise.proofs.tell_meetings.Goals as goal
 
 pub returns : goal.returns

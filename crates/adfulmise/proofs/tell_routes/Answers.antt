@@ -2,7 +2,6 @@
 use mathlib.Core.Path.{refl}
 use Rattle.routes.specs.Check.{route_told}
 use Rattle.adfulmise.proofs.LentLaws.{checked}
-use borrow.Author.Rules.{rules}
 use Rattle.adfulmise.proofs.tell_routes.Goals as goal
 
 pub returns : goal.returns

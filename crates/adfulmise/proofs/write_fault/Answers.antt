@@ -4,7 +4,6 @@ use lib.ListN.{take}
 use lib.Seq.{lt-length-sets}
 use Rattle.adfulmise.specs.Lent.{fault_values}
 use Rattle.adfulmise.proofs.LentLaws.{written_short, written_long}
-use borrow.Author.Rules.{rules}
 use Rattle.adfulmise.proofs.write_fault.Goals as goal
 
 pub returns-then-told-lt-FAULT_LENGTH : goal.returns-then-told-lt-FAULT_LENGTH

@@ -1,7 +1,6 @@
 -- The two stores are what the definition writes where there is room. Assumes nothing.
 use Rattle.adfulmise.specs.Lent.{place_values}
 use Rattle.adfulmise.proofs.LentLaws.{written_short, written_long}
-use borrow.Author.Rules.{rules}
 use Rattle.adfulmise.proofs.write_place.Goals as goal
 
 pub returns-then-place-lt-PLACE_LENGTH : goal.returns-then-place-lt-PLACE_LENGTH

@@ -4,7 +4,6 @@ use lib.ListN.{take}
 use lib.Seq.{lt-length-sets}
 use Rattle.adfulmise.specs.Lent.{told_values}
 use Rattle.adfulmise.proofs.LentLaws.{written_short, written_long}
-use borrow.Author.Rules.{rules}
 use Rattle.adfulmise.proofs.write_told.Goals as goal
 
 pub returns-then-told-lt-TOLD_LENGTH : goal.returns-then-told-lt-TOLD_LENGTH

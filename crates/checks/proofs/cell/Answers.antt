@@ -1,7 +1,6 @@
 -- `checks::cell` meets its contract: a byte is below 256. Assumes nothing.
 use native.Mathlib.Omega.{arith}
 use mathlib.Core.Path.{refl}
-use borrow.Author.Rules.{rules}
 use Rattle.checks.proofs.cell.Goals as goal
 
 pub overflow_cast-result : goal.overflow_cast-result

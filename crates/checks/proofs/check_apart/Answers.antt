@@ -1,5 +1,4 @@
 -- `checks::check_apart` meets its contract: a short plan is refused, and in one that is long enough the clash is the one found. Assumes nothing.
-use borrow.Author.Rules.{rules}
 use Rattle.checks.proofs.WalkCode.{compared_short, compared_whole, compared_clash}
 use Rattle.checks.proofs.check_apart.Goals as goal
 

@@ -1,6 +1,5 @@
 -- `checks::check_lawful` meets its contract: a short plan is refused, and one that is long enough is judged by its first wrong place. Assumes nothing.
 use mathlib.Core.Path.{◌∙◌}
-use borrow.Author.Rules.{rules}
 use Rattle.job.specs.Job.{plan_cell}
 use Rattle.job.specs.Team.{job_of}
 use Rattle.routes.specs.Check.{first_wrong_place}

@@ -1,6 +1,5 @@
 -- `checks::check_routes` meets its contract: what checks 1 to 6 and 16 refuse is refused, and an accepted job goes on to its plan. Assumes nothing.
 use mathlib.Core.Path.{◌∙◌}
-use borrow.Author.Rules.{rules}
 use Rattle.job.specs.Team.{job_of}
 use Rattle.checks.proofs.WalkCode.{accepted_limits, routes_accepted, routes_refused}
 use Rattle.checks.proofs.check_routes.Goals as goal

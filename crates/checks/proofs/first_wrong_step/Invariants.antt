@@ -1,13 +1,10 @@
 -- `checks::first_wrong_step` meets its contract: no step that was passed is wrong, so the first is that of the steps that are left. Assumes nothing.
 use Prim.Native.Nat.{◌+◌, ◌-◌, ◌≤◌}
-use native.Mathlib.Omega.{arith}
-use mathlib.Core.Path.{◌≡◌, sym, ap, ◌∙◌}
+use mathlib.Core.Path.{◌≡◌}
 use mathlib.Core.List.{map}
 use Rattle.lists.specs.Lists.{range, first_of}
-use Rattle.lists.proofs.Loops.{first_map_found, first_map_passed, first_map_done}
 use Rattle.job.specs.Team.{job_of}
-use Rattle.checks.specs.Walk.{place_of, wrong_place, places_of, place_found}
-use Rattle.checks.proofs.WalkCode.{steps_from}
+use Rattle.checks.specs.Walk.{place_of, wrong_place, places_of}
 use Rattle.checks.proofs.first_wrong_step.Given as goal
 
 abbrev pub invariant-loop-t : goal.invariant-loop-t

@@ -1,6 +1,5 @@
 -- `checks::wrong_arrival` meets its contract: at step 0 the start decides, later whether the cell may follow the one before. Assumes nothing.
 use native.Mathlib.Omega.{arith}
-use borrow.Author.Rules.{rules}
 use Rattle.job.specs.Team.{job_of}
 use Rattle.checks.proofs.WalkCode.{byte_within, arrival_start, arrival_move}
 use Rattle.checks.proofs.wrong_arrival.Goals as goal

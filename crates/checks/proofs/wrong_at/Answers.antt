@@ -2,7 +2,6 @@
 use Prim.Native.Nat.{◌+◌}
 use native.Mathlib.Omega.{arith}
 use mathlib.Core.Path.{◌∙◌}
-use borrow.Author.Rules.{rules}
 use borrow.Author.Tests.{ne_eqb}
 use Rattle.job.specs.Team.{job_of}
 use Rattle.checks.proofs.WalkCode.{byte_within, at_arrival, at_goal, at_inside}

@@ -1,8 +1,6 @@
 -- By the cases: no route, a route and no record for it, or a child that is due. Assumes nothing.
-use borrow.Author.Tests.{not-true, not-false}
 use Rattle.children.proofs.Keeping.{sound_falls}
 use Rattle.children.proofs.Due.{none_due, full_due, child_done, child_due}
-use borrow.Author.Rules.{rules}
 use Rattle.children.proofs.add_child.Goals as goal
 
 pub has_route-found-requires : goal.has_route-found-requires

@@ -1,9 +1,7 @@
 -- Record 0 has no bar, so the route sought with no new bar is the one without bars. Assumes nothing.
-use borrow.Author.Tests.{not-true, not-false}
 use Rattle.children.proofs.Keeping.{ready_still, first_within}
 use Rattle.children.proofs.Seeking.{readable}
 use Rattle.children.proofs.FreeLoop.{none_free, one_free}
-use borrow.Author.Rules.{rules}
 use Rattle.children.proofs.free_route.Goals as goal
 
 pub returns-then-not-found : goal.returns-then-not-found

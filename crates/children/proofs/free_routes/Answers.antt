@@ -1,10 +1,8 @@
 -- The loop's invariant: the first i carriers have a route without bars, it is written, the layers hold the last one's levels, and nothing
 -- past the tables' least lengths has changed. Assumes nothing.
-use Prim.Native.Nat.{◌-◌, ◌≤◌}
 use native.Mathlib.Omega.{arith}
-use borrow.Author.Tests.{not-true, not-false}
 use Rattle.children.proofs.Keeping.{ready_still}
-use Rattle.children.proofs.FreeLoop.{FreeSoFar, free_start, plans_still, layers_still, free_turn, free_stop, free_done}
+use Rattle.children.proofs.FreeLoop.{free_start, plans_still, layers_still, free_turn, free_stop, free_done}
 use Rattle.children.proofs.free_routes.Goals as goal
 
 pub loop-i-init : goal.loop-i-init

@@ -1,6 +1,5 @@
 -- The start and the goal are on the grid, so the route is sought; it is found where its cost is told. Assumes nothing.
 use Rattle.children.proofs.Seeking.{seek_due, none_sought, one_sought}
-use borrow.Author.Rules.{rules}
 use Rattle.children.proofs.has_route.Goals as goal
 
 pub seek_route-found-requires : goal.seek_route-found-requires

@@ -2,7 +2,6 @@
 -- that is due. Assumes nothing.
 use native.Mathlib.Omega.{arith}
 use Rattle.children.proofs.Due.{copy_place, record_due, child_made}
-use borrow.Author.Rules.{rules}
 use Rattle.children.proofs.make_child.Goals as goal
 
 pub overflow_mul-node : goal.overflow_mul-node

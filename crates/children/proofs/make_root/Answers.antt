@@ -1,8 +1,6 @@
 -- The record of number 0 with no bar, then the routes, then the record with their sum. Assumes nothing.
 use native.Mathlib.Omega.{arith}
-use borrow.Author.Tests.{not-true, not-false}
 use Rattle.children.proofs.Rooted.{root_record, free_due, not_rooted, root_room, sum_due, rooted}
-use borrow.Author.Rules.{rules}
 use Rattle.children.proofs.make_root.Goals as goal
 
 pub write_record-requires : goal.write_record-requires

@@ -1,7 +1,6 @@
 -- The carrier's part is lent, one byte for each step, and the route fills it. Assumes nothing.
 use native.Mathlib.Omega.{arith}
 use Rattle.children.proofs.Seeking.{put_place, write_due, route_put}
-use borrow.Author.Rules.{rules}
 use Rattle.children.proofs.put_route.Goals as goal
 
 pub overflow_mul-from : goal.overflow_mul-from

@@ -1,7 +1,6 @@
 -- The stretch is lent whole, and its sum is the node's. Assumes nothing.
 use native.Mathlib.Omega.{arith}
 use Rattle.children.proofs.Seeking.{stretch_place, sum_read}
-use borrow.Author.Rules.{rules}
 use Rattle.children.proofs.sum_at.Goals as goal
 
 pub overflow_mul-from : goal.overflow_mul-from

@@ -1,14 +1,13 @@
 -- `clashes::first_clash` meets its contract. Each loop's invariant: nothing is found yet, and every clash that happens comes at
 -- the meeting that the loops' numbers name or later. Assumes nothing.
-use Prim.Native.Nat.{ℕ, ◌+◌, ◌-◌, ◌≤◌, ◌<◌, min}
+use Prim.Native.Nat.{◌+◌, ◌-◌, min}
 use mathlib.Core.Path.{◌≡◌, refl, sym, ap, subst, ◌∙◌}
 use native.Mathlib.Omega.{arith}
 use lib.ListN.{get_or}
-use Rattle.lists.specs.Lists.{greatest}
 use Rattle.lists.proofs.Greatest.{greatest_below}
 use Rattle.lists.proofs.Tests.{of_true, of_false}
 use Rattle.clashes.specs.Find.{in_plan}
-use Rattle.clashes.specs.declared.Clash.TheVariants.{Clear, Meeting}
+use Rattle.clashes.specs.declared.Clash.TheVariants.{Meeting}
 use Rattle.clashes.proofs.Compared.{other_now, other_within, whole_within}
 use Rattle.clashes.proofs.Cursor.{From, from_start, from_others, from_next_second, from_next_first, from_next_distance, from_swaps, from_next_step, from_meeting, from_swap, from_end}
 use Rattle.clashes.proofs.first_clash.Goals as goal

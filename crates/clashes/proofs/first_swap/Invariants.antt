@@ -1,12 +1,10 @@
 -- `clashes::first_swap` meets its contract. Both loops' invariant: nothing is found yet, and every swap at the step comes at the
 -- loops' two numbers or later. Assumes nothing.
-use Prim.Native.Nat.{◌+◌, ◌-◌, ◌≤◌, ◌<◌}
-use mathlib.Core.Path.{◌≡◌, refl}
-use native.Mathlib.Omega.{arith}
+use Prim.Native.Nat.{◌-◌, ◌≤◌, ◌<◌}
+use mathlib.Core.Path.{◌≡◌}
 use Rattle.clashes.specs.Find.{in_plan}
 use Rattle.clashes.specs.declared.Clash.TheVariants.{Clear}
-use Rattle.clashes.proofs.Compared.{whole_within}
-use Rattle.clashes.proofs.Swaps.{SwapsFrom, swaps_start, swaps_above, swaps_next_second, swaps_next_first, swaps_found, swaps_end, swaps_past}
+use Rattle.clashes.proofs.Swaps.{SwapsFrom}
 use Rattle.clashes.proofs.first_swap.Given as goal
 
 abbrev pub invariant-loop-j : goal.invariant-loop-j

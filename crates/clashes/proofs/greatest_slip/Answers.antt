@@ -1,8 +1,7 @@
 -- `clashes::greatest_slip` meets its contract: so far it is the greatest of the slips that were passed. Assumes nothing.
-use Prim.Native.Nat.{ℕ, ◌-◌, ◌≤◌, max}
+use Prim.Native.Nat.{ℕ, max}
 use mathlib.Core.Path.{◌≡◌, refl, sym, ap, ◌∙◌}
 use native.Mathlib.Omega.{arith}
-use borrow.Author.Rules.{rules}
 use lib.ListN.{get_or}
 use Rattle.lists.specs.Lists.{greatest}
 use Rattle.lists.proofs.Greatest.{greatest_next}

@@ -1,11 +1,8 @@
 -- `clashes::greatest_slip` meets its contract: so far it is the greatest of the slips that were passed. Assumes nothing.
-use Prim.Native.Nat.{ℕ, ◌-◌, ◌≤◌, max}
-use mathlib.Core.Path.{◌≡◌, refl, sym, ap, ◌∙◌}
-use native.Mathlib.Omega.{arith}
-use borrow.Author.Rules.{rules}
+use Prim.Native.Nat.{◌-◌, ◌≤◌}
+use mathlib.Core.Path.{◌≡◌}
 use lib.ListN.{get_or}
 use Rattle.lists.specs.Lists.{greatest}
-use Rattle.lists.proofs.Greatest.{greatest_next}
 use Rattle.clashes.proofs.greatest_slip.Given as goal
 
 abbrev pub invariant-loop-i : goal.invariant-loop-i

@@ -2,7 +2,6 @@
 -- are two is left. Assumes nothing.
 use mathlib.Core.Path.{sym, ◌∙◌}
 use native.Mathlib.Omega.{arith}
-use borrow.Author.Rules.{rules}
 use Rattle.clashes.specs.Find.{in_plan}
 use Rattle.clashes.proofs.Compared.{meets_far, meets_apart, meets_there}
 use Rattle.clashes.proofs.meet.Goals as goal

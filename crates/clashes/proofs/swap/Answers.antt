@@ -2,7 +2,6 @@
 use mathlib.Core.Logic.{inl, inr}
 use mathlib.Core.Path.{sym, ◌∙◌}
 use native.Mathlib.Omega.{arith}
-use borrow.Author.Rules.{rules}
 use Rattle.clashes.specs.Find.{in_plan}
 use Rattle.clashes.proofs.Compared.{swaps_apart, swaps_slipping, swaps_still}
 use Rattle.clashes.proofs.swap.Goals as goal

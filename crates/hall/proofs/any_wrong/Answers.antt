@@ -1,9 +1,6 @@
 -- `hall::any_wrong` meets its contract: what was passed is right, so the answer is that of the bytes that are left. Assumes nothing.
-use Prim.Native.Nat.{◌≤◌, ◌-◌}
 use native.Mathlib.Omega.{arith}
-use mathlib.Core.Path.{◌≡◌, refl, sym, ◌∙◌}
-use lib.ListN.{length, drop}
-use Rattle.lists.specs.Lists.{any_of}
+use mathlib.Core.Path.{refl, sym, ◌∙◌}
 use Rattle.lists.proofs.Loops.{any_found, any_passed, any_ended}
 use Rattle.hall.specs.Hall.{wrong_byte}
 use Rattle.hall.proofs.any_wrong.Goals as goal

@@ -3,7 +3,6 @@ use native.Mathlib.Nat.{div-le_self, mod-le}
 use native.Mathlib.Omega.{arith}
 use mathlib.Core.Path.{◌∙◌}
 use Rattle.hall.proofs.HallCode.{follows_open, follows_closed}
-use borrow.Author.Rules.{rules}
 use Rattle.hall.proofs.follows.Goals as goal
 
 pub reaches-requires : goal.reaches-requires

@@ -1,7 +1,6 @@
 -- `hall::is_open` meets its contract: past the grid and past the bytes no cell is open, and elsewhere the byte decides. Assumes nothing.
 use native.Mathlib.Omega.{arith}
 use Rattle.hall.proofs.HallCode.{area_small, closed_past, closed_short, open_read}
-use borrow.Author.Rules.{rules}
 use Rattle.hall.proofs.is_open.Goals as goal
 
 pub overflow_mul-width : goal.overflow_mul-width

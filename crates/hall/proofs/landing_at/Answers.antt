@@ -4,7 +4,6 @@ use native.Mathlib.Omega.{arith}
 use mathlib.Core.Path.{sym, ap, ◌∙◌}
 use Rattle.hall.proofs.HallCode.{area_small, grid_bounds, landed_cell, landed_off}
 use Rattle.hall.proofs.MoveTable.{row_change_small, col_change_small}
-use borrow.Author.Rules.{rules}
 use Rattle.hall.proofs.landing_at.Goals as goal
 
 pub overflow_add-r : goal.overflow_add-r

@@ -3,7 +3,6 @@ use mathlib.Core.Path.{ap, ◌∙◌}
 use lib.Dec.{eqb}
 use Rattle.lists.specs.Lists.{any_of}
 use Rattle.hall.proofs.HallCode.{lands_off, lands_cell}
-use borrow.Author.Rules.{rules}
 use Rattle.hall.proofs.lands_on.Goals as goal
 
 pub returns-in-Off : goal.returns-in-Off

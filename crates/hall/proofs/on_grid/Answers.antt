@@ -1,6 +1,5 @@
 -- `hall::on_grid` meets its contract: the row decides, or else the column. Assumes nothing.
 use Rattle.hall.specs.Moves.{on_grid}
-use borrow.Author.Rules.{rules}
 use Rattle.hall.proofs.on_grid.Goals as goal
 
 pub returns-then-within : goal.returns-then-within

@@ -1,9 +1,7 @@
 -- `hall::reaches` meets its contract: no move that was passed lands there, so the answer is that of the moves that are left. Assumes nothing.
-use Prim.Native.Nat.{◌≤◌, ◌-◌}
 use native.Mathlib.Omega.{arith}
-use mathlib.Core.Path.{◌≡◌, refl, sym, ◌∙◌}
+use mathlib.Core.Path.{refl, sym, ◌∙◌}
 use lib.Dec.{eqb}
-use Rattle.lists.specs.Lists.{range, each, any_of}
 use Rattle.lists.proofs.Loops.{each_found, each_passed, each_done}
 use Rattle.hall.specs.Moves.{landing, reach_from}
 use Rattle.hall.proofs.reaches.Goals as goal

@@ -1,6 +1,5 @@
 -- `hall::right` meets its contract: the law of the five moves at its move. Assumes nothing.
 use Rattle.hall.proofs.MoveTable.{col_counted}
-use borrow.Author.Rules.{rules}
 use Rattle.hall.proofs.right.Goals as goal
 
 pub overflow_add-result : goal.overflow_add-result

@@ -2,7 +2,6 @@
 use native.Mathlib.Omega.{arith}
 use mathlib.Core.Path.{◌∙◌}
 use Rattle.hall.proofs.HallCode.{area_small, bytes_of_length, bytes_not_of_length}
-use borrow.Author.Rules.{rules}
 use Rattle.hall.proofs.wrong_bytes.Goals as goal
 
 pub overflow_mul-width : goal.overflow_mul-width

@@ -1,5 +1,4 @@
 -- `hall::wrong_grid` meets its contract: the first side decides, or else the second. Assumes nothing.
-use borrow.Author.Rules.{rules}
 use Rattle.hall.proofs.wrong_grid.Goals as goal
 
 pub returns-then-wrong_side : goal.returns-then-wrong_side

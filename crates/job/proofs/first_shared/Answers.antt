@@ -1,11 +1,9 @@
 -- `job::first_shared` meets its contract: no carrier that was passed shares with a later one, so the first pair is that of the carriers that are left. Assumes nothing.
-use Prim.Native.Nat.{◌≤◌, ◌-◌}
 use native.Mathlib.Omega.{arith}
-use mathlib.Core.Path.{◌≡◌, sym, ◌∙◌}
-use borrow.Author.Rules.{rules}
-use Rattle.lists.specs.Lists.{range, each, first_of}
+use mathlib.Core.Path.{sym, ◌∙◌}
+use Rattle.lists.specs.Lists.{first_of}
 use Rattle.lists.proofs.Loops.{first_each_found, first_each_passed, first_each_done}
-use Rattle.job.specs.Job.{share, first_shared}
+use Rattle.job.specs.Job.{share}
 use Rattle.job.specs.Found.{end_in, pairs_from, pair_found}
 use Rattle.job.proofs.JobCode.{shared_from, pair_some, pair_none}
 use Rattle.job.proofs.first_shared.Goals as goal

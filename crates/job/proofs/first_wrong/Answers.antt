@@ -1,11 +1,8 @@
 -- `job::first_wrong` meets its contract: no carrier that was passed is wrong, so the first is that of the carriers that are left. Assumes nothing.
-use Prim.Native.Nat.{◌≤◌, ◌-◌}
 use native.Mathlib.Omega.{arith}
-use mathlib.Core.Path.{◌≡◌, sym, ◌∙◌}
-use borrow.Author.Rules.{rules}
-use Rattle.lists.specs.Lists.{range, first_of}
+use mathlib.Core.Path.{sym, ◌∙◌}
 use Rattle.lists.proofs.Loops.{first_range_found, first_range_passed, first_range_done}
-use Rattle.job.specs.Job.{wrong_carrier, first_wrong}
+use Rattle.job.specs.Job.{wrong_carrier}
 use Rattle.job.specs.Team.{job_of}
 use Rattle.job.specs.Found.{wrong_found}
 use Rattle.job.proofs.JobCode.{wrong_from}

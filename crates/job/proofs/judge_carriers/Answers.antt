@@ -1,6 +1,5 @@
 -- `job::judge_carriers` meets its contract: a wrong carrier is told before a shared end. Assumes nothing.
 use mathlib.Core.Path.{◌∙◌}
-use borrow.Author.Rules.{rules}
 use Rattle.job.specs.Job.{first_wrong}
 use Rattle.job.specs.Team.{job_of}
 use Rattle.job.specs.Found.{end_in, shared_by}

@@ -1,6 +1,5 @@
 -- `job::judge_job` meets its contract: each way out is the check that refused, with those before it passed. Assumes nothing.
 use mathlib.Core.Path.{sym, ◌∙◌}
-use borrow.Author.Rules.{rules}
 use Rattle.hall.specs.Hall.{wrong_grid}
 use Rattle.hall.proofs.RightHall.{grid_right}
 use Rattle.job.specs.Job.{wrong_limits, wrong_count}

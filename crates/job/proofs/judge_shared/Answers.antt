@@ -1,6 +1,5 @@
 -- `job::judge_shared` meets its contract: a shared start is told before a shared goal. Assumes nothing.
 use mathlib.Core.Path.{◌∙◌}
-use borrow.Author.Rules.{rules}
 use Rattle.job.specs.Job.{first_shared}
 use Rattle.job.specs.Verdict.{shared_verdict}
 use Rattle.job.specs.Found.{end_in}

@@ -1,13 +1,11 @@
 -- `job::shared_with` meets its contract: no carrier that was passed shares with i, so the first is that of the carriers that are left. Assumes nothing.
-use Prim.Native.Nat.{◌-◌}
 use native.Mathlib.Omega.{arith}
-use mathlib.Core.Path.{◌≡◌, sym, ap, ◌∙◌}
-use mathlib.Core.List.{map}
+use mathlib.Core.Path.{sym, ap, ◌∙◌}
 use borrow.Author.Tests.{eq-eqb, ne_eqb}
-use Rattle.lists.specs.Lists.{range, first_of}
+use Rattle.lists.specs.Lists.{first_of}
 use Rattle.lists.proofs.Loops.{first_map_found, first_map_passed, first_map_done}
 use Rattle.job.specs.Job.{share}
-use Rattle.job.specs.Found.{end_in, pairs_from, pair_found}
+use Rattle.job.specs.Found.{end_in, pair_found}
 use Rattle.job.proofs.JobCode.{pairs_from_lem}
 use Rattle.job.proofs.shared_with.Goals as goal
 

@@ -1,5 +1,4 @@
 -- `verdict_told` meets its contract: each arm is a case of the definition. Assumes nothing.
-use borrow.Author.Rules.{rules}
 use Rattle.job.proofs.verdict_told.Goals as goal
 
 pub returns-in-Accepted : goal.returns-in-Accepted

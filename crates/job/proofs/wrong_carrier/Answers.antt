@@ -1,6 +1,5 @@
 -- `job::wrong_carrier` meets its contract: the slip decides, or else the start, or else the goal. Assumes nothing.
 use mathlib.Core.Bool.{or-true, or-false}
-use borrow.Author.Rules.{rules}
 use borrow.Author.Tests.{lt-ltb, le-ltb}
 use Rattle.job.proofs.wrong_carrier.Goals as goal
 

@@ -1,6 +1,5 @@
 -- Assumes nothing.
 use Rattle.layers.proofs.StepLaws.{arrives-moves, arrives_ends}
-use borrow.Author.Rules.{rules}
 use Rattle.layers.proofs.arrives.Goals as goal
 
 pub returns-then-moves : goal.returns-then-moves

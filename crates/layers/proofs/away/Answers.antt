@@ -1,7 +1,6 @@
 -- Two rows and two columns of a small hall are not far apart. Assumes nothing.
 use native.Mathlib.Omega.{arith}
 use Rattle.layers.proofs.Soon.{away_small}
-use borrow.Author.Rules.{rules}
 use Rattle.layers.proofs.away.Goals as goal
 
 pub overflow_add-result : goal.overflow_add-result

@@ -1,10 +1,7 @@
 -- The first v bytes are marks. Assumes nothing.
-use native.Mathlib.Omega.{arith}
 use Prim.Native.Nat.{◌-◌, ◌≤◌}
-use mathlib.Core.Path.{◌≡◌, ap, ◌∙◌}
 use mathlib.Core.Bool.{true}
 use Rattle.lent.specs.Made.{Made}
-use Rattle.lent.proofs.MadeLaws.{made_none, made_next, made_more, made_all}
 use Rattle.layers.specs.Fill.{mark_for}
 use Rattle.layers.proofs.bar_others.Given as goal
 

@@ -1,9 +1,8 @@
 -- The first v entries are copied. Assumes nothing.
 use native.Mathlib.Omega.{arith}
-use Prim.Native.Nat.{◌+◌, ◌-◌, ◌≤◌}
+use Prim.Native.Nat.{◌+◌}
 use mathlib.Core.Path.{◌≡◌, refl}
 use lib.ListN.{get_or}
-use Rattle.lent.specs.Made.{Made}
 use Rattle.lent.proofs.MadeLaws.{made_none, made_more, made_all}
 use Rattle.layers.proofs.copy_layer.Goals as goal
 

@@ -1,9 +1,5 @@
 -- The layers from step t on are made. Assumes nothing.
-use native.Mathlib.Omega.{arith}
-use Prim.Native.Nat.{◌+◌, ◌-◌, ◌*◌}
-use mathlib.Core.Path.{◌≡◌, refl, subst}
-use Rattle.layers.proofs.LayerLaws.{half_small, half_turned}
-use Rattle.layers.proofs.PassLaws.{pass_bounds, next_layer, Passing, passing_begins, passing_more, passing_ends, none_crossing}
+use Rattle.layers.proofs.PassLaws.{Passing}
 use Rattle.layers.proofs.fill_back.Given as goal
 
 abbrev pub invariant-loop-t : goal.invariant-loop-t

@@ -1,7 +1,6 @@
 -- The first v cells of the layer are made. Assumes nothing.
 use native.Mathlib.Omega.{arith}
-use Prim.Native.Nat.{◌-◌}
-use Rattle.layers.proofs.LayerLaws.{half_small, Filling, filling_none, filling_more, filling_all}
+use Rattle.layers.proofs.LayerLaws.{half_small, filling_none, filling_more, filling_all}
 use Rattle.layers.proofs.fill_cells.Goals as goal
 
 pub loop-v-init : goal.loop-v-init

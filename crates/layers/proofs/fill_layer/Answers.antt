@@ -1,7 +1,6 @@
 -- Assumes nothing.
 use mathlib.Core.Bool.{true, false}
 use Rattle.layers.proofs.LayerLaws.{layer_of}
-use borrow.Author.Rules.{rules}
 use Rattle.layers.proofs.fill_layer.Goals as goal
 
 pub returns-then-moves : goal.returns-then-moves

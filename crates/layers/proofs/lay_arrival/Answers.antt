@@ -3,7 +3,6 @@ use native.Mathlib.Omega.{arith}
 use Prim.Native.Nat.{◌+◌}
 use lib.ListN.{get_or, length-set}
 use Rattle.layers.proofs.StepLaws.{blank_long, arrival_laid}
-use borrow.Author.Rules.{rules}
 use Rattle.layers.proofs.lay_arrival.Goals as goal
 
 pub copy_layer-requires : goal.copy_layer-requires

@@ -1,6 +1,5 @@
 -- Assumes nothing.
 use Rattle.layers.proofs.StepLaws.{marks_moves, marks_ends}
-use borrow.Author.Rules.{rules}
 use Rattle.layers.proofs.lay_marks.Goals as goal
 
 pub returns-then-moves : goal.returns-then-moves

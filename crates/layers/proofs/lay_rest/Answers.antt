@@ -1,9 +1,8 @@
 -- The first v bytes are laid. Assumes nothing.
 use native.Mathlib.Omega.{arith}
-use Prim.Native.Nat.{◌+◌, ◌-◌, max, ◌≤◌}
+use Prim.Native.Nat.{◌+◌, max}
 use mathlib.Core.Path.{◌≡◌, ap, ◌∙◌}
 use lib.ListN.{get_or}
-use Rattle.lent.specs.Made.{Made}
 use Rattle.lent.proofs.MadeLaws.{made_none, made_next, made_more, made_all}
 use Rattle.layers.proofs.lay_rest.Goals as goal
 

@@ -1,6 +1,5 @@
 -- Assumes nothing.
 use Rattle.layers.proofs.CellLaws.{least_read}
-use borrow.Author.Rules.{rules}
 use Rattle.layers.proofs.least_way.Goals as goal
 
 pub returns : goal.returns

@@ -4,7 +4,6 @@ use mathlib.Core.Path.{refl, ap}
 use lib.ListN.{get_or}
 use Rattle.hall.specs.Moves.{col_changes}
 use Rattle.layers.proofs.CellLaws.{near_facts}
-use borrow.Author.Rules.{rules}
 use Rattle.layers.proofs.near.Goals as goal
 
 pub overflow_mul-result : goal.overflow_mul-result

@@ -1,6 +1,5 @@
 -- Assumes nothing.
 use Rattle.layers.proofs.CellLaws.{one_more}
-use borrow.Author.Rules.{rules}
 use Rattle.layers.proofs.one_more.Goals as goal
 
 pub returns : goal.returns

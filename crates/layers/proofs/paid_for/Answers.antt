@@ -1,6 +1,5 @@
 -- Assumes nothing.
 use Rattle.layers.proofs.CellLaws.{paid_moves, paid_ends}
-use borrow.Author.Rules.{rules}
 use Rattle.layers.proofs.paid_for.Goals as goal
 
 pub returns-then-moves : goal.returns-then-moves

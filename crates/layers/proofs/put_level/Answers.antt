@@ -3,7 +3,6 @@ use mathlib.Core.Path.{ap}
 use lib.ListN.{get_or, set}
 use Prim.Native.Nat.{◌+◌, ◌-◌}
 use Rattle.layers.proofs.CellLaws.{level_put}
-use borrow.Author.Rules.{rules}
 use Rattle.layers.proofs.put_level.Goals as goal
 
 pub returns : goal.returns

@@ -2,7 +2,6 @@
 use native.Mathlib.Omega.{arith}
 use Rattle.layers.proofs.LayerLaws.{half_small}
 use Rattle.layers.proofs.StepLaws.{rests_moves, rests_not, rests_here}
-use borrow.Author.Rules.{rules}
 use Rattle.layers.proofs.rest_end.Goals as goal
 
 pub returns-then-moves : goal.returns-then-moves

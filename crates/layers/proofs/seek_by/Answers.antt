@@ -6,7 +6,6 @@ use lib.ListN.{get_or}
 use Rattle.shuts.specs.Post.{lent_hall}
 use Rattle.layers.proofs.Soon.{fillable_again}
 use Rattle.layers.proofs.SeekLaws.{crossing_kept, sought_none, sought_cost}
-use borrow.Author.Rules.{rules}
 use Rattle.layers.proofs.seek_by.Goals as goal
 
 pub overflow_cast-end : goal.overflow_cast-end

@@ -8,7 +8,6 @@ use Rattle.marks.proofs.More.{still_layered}
 use Rattle.shuts.specs.Post.{lent_hall}
 use Rattle.layers.proofs.Soon.{bears_small, soon_within, soon_bears, soon_rests, fillable}
 use Rattle.layers.proofs.SeekLaws.{bearing_crosses, no_crossing, sought_after, sought_soon, sought_late}
-use borrow.Author.Rules.{rules}
 use Rattle.layers.proofs.seek_route.Goals as goal
 
 pub soon_by-soon-requires : goal.soon_by-soon-requires

@@ -4,7 +4,6 @@ use Rattle.marks.specs.Marks.{bound_by}
 use Rattle.shuts.specs.Post.{lent_hall}
 use Rattle.layers.proofs.Soon.{fillable, whole_rests}
 use Rattle.layers.proofs.SeekLaws.{bearing_crosses, no_crossing, sought_after}
-use borrow.Author.Rules.{rules}
 use Rattle.layers.proofs.seek_whole.Goals as goal
 
 pub seek_by-requires : goal.seek_by-requires

@@ -1,7 +1,6 @@
 -- As the definition has it, and none of the sums is large. Assumes nothing.
 use native.Mathlib.Omega.{arith}
 use Rattle.layers.proofs.Soon.{away_small, soon_made}
-use borrow.Author.Rules.{rules}
 use Rattle.layers.proofs.soon_by.Goals as goal
 
 pub overflow_add-later : goal.overflow_add-later

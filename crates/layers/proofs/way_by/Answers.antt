@@ -1,6 +1,5 @@
 -- Assumes nothing.
 use Rattle.layers.proofs.CellLaws.{way_aside, way_crossed, way_open}
-use borrow.Author.Rules.{rules}
 use Rattle.layers.proofs.way_by.Goals as goal
 
 pub returns-then-sideways : goal.returns-then-sideways

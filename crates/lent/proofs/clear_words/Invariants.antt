@@ -1,10 +1,7 @@
 -- The loop's invariant: the first i entries are zero, the rest are as they were. Assumes nothing.
 use Prim.Native.Nat.{◌≤◌, ◌-◌}
-use native.Mathlib.Omega.{arith}
 use mathlib.Core.Path.{◌≡◌}
 use Rattle.lent.specs.Lent.{zeroed}
-use Rattle.lists.proofs.Loops.{at_end}
-use Rattle.lent.proofs.Copies.{zeroed_none, zeroed_more, zeroed-length}
 use Rattle.lent.proofs.clear_words.Given as goal
 
 abbrev pub invariant-loop-i : goal.invariant-loop-i

@@ -1,7 +1,5 @@
 -- The loop's invariant: the first i bytes are copied, the rest are as they were. Assumes nothing.
-use Prim.Native.Nat.{◌≤◌, ◌-◌}
 use native.Mathlib.Omega.{arith}
-use mathlib.Core.Path.{◌≡◌}
 use mathlib.Core.List.{◌++◌}
 use lib.ListN.{take, drop}
 use Rattle.lists.proofs.Loops.{at_end}

@@ -1,11 +1,8 @@
 -- The loop's invariant: the first i bytes are copied, the rest are as they were. Assumes nothing.
 use Prim.Native.Nat.{◌≤◌, ◌-◌}
-use native.Mathlib.Omega.{arith}
 use mathlib.Core.Path.{◌≡◌}
 use mathlib.Core.List.{◌++◌}
 use lib.ListN.{take, drop}
-use Rattle.lists.proofs.Loops.{at_end}
-use Rattle.lent.proofs.Copies.{out_none, out_more, out_length}
 use Rattle.lent.proofs.copy_out.Given as goal
 
 abbrev pub invariant-loop-i : goal.invariant-loop-i

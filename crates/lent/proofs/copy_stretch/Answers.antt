@@ -1,7 +1,5 @@
 -- The loop's invariant: i bytes are copied, and the source, which lies below, is as it was. Assumes nothing.
-use Prim.Native.Nat.{◌≤◌, ◌-◌}
 use native.Mathlib.Omega.{arith}
-use mathlib.Core.Path.{◌≡◌}
 use lib.ListN.{take, drop}
 use lib.Seq.{paste}
 use Rattle.lists.proofs.Loops.{at_end}

@@ -1,11 +1,8 @@
 -- The loop's invariant: i bytes are copied, and the source, which lies below, is as it was. Assumes nothing.
 use Prim.Native.Nat.{◌≤◌, ◌-◌}
-use native.Mathlib.Omega.{arith}
 use mathlib.Core.Path.{◌≡◌}
 use lib.ListN.{take, drop}
 use lib.Seq.{paste}
-use Rattle.lists.proofs.Loops.{at_end}
-use Rattle.lent.proofs.Copies.{copied_none, copied_more, copied_length}
 use Rattle.lent.proofs.copy_stretch.Given as goal
 
 abbrev pub invariant-loop-i : goal.invariant-loop-i

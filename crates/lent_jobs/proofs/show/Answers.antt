@@ -1,7 +1,6 @@
 -- The text ends inside the buffer, as any text put from its start does. Assumes nothing.
 use mathlib.Core.Path.{sym}
 use lib.Seq.{length-take-le}
-use borrow.Author.Rules.{rules}
 use Rattle.lines.proofs.PrintedLaws.{inside_of}
 use Rattle.lent_jobs.proofs.show.Goals as goal
 

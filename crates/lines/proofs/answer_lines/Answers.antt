@@ -3,7 +3,6 @@ use mathlib.Core.Path.{ap, ◌∙◌}
 use Rattle.job.specs.declared.Told.{Told}
 use Rattle.text.specs.Text.{page, put}
 use Rattle.lines.specs.Lines.{carriers_text, told_text}
-use borrow.Author.Rules.{rules}
 use Rattle.lines.proofs.answer_lines.Goals as goal
 
 pub returns : goal.returns

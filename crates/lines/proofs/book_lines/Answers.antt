@@ -1,7 +1,6 @@
 -- A book that is not refused has the lines of its job; a refused one has one line. Assumes nothing.
 use mathlib.Core.Path.{sym, ◌∙◌}
 use Rattle.lines.proofs.PrintedLaws.{good_printed, refused_printed}
-use borrow.Author.Rules.{rules}
 use Rattle.lines.proofs.book_lines.Goals as goal
 
 pub returns-in-Good : goal.returns-in-Good

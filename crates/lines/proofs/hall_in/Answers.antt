@@ -1,6 +1,5 @@
 -- All but the first two bytes, or none. Assumes nothing.
 use Rattle.lines.proofs.PrintedLaws.{no_hall, hall_rest}
-use borrow.Author.Rules.{rules}
 use Rattle.lines.proofs.hall_in.Goals as goal
 
 pub returns-then-body-lt-HALL_AT : goal.returns-then-body-lt-HALL_AT

@@ -1,6 +1,5 @@
 -- What the calls find in the book is its job, and the lines are those of the planner's result. Assumes nothing.
 use Rattle.lines.proofs.PrintedLaws.{job_printed}
-use borrow.Author.Rules.{rules}
 use Rattle.lines.proofs.job_lines.Goals as goal
 
 pub returns : goal.returns

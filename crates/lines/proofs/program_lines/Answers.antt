@@ -1,6 +1,5 @@
 -- The program is `book_lines` with N = 128, on its own tables and a page with room for every text. Assumes nothing.
 use Rattle.lines.proofs.Program.{program_printed}
-use borrow.Author.Rules.{rules}
 use Rattle.lines.proofs.program_lines.Goals as goal
 
 pub returns : goal.returns

@@ -1,7 +1,6 @@
 -- The line of the carrier's cost. Assumes nothing.
 use Rattle.text.specs.Text.{page}
 use Rattle.lines.proofs.LinesLaws.{carrier_put}
-use borrow.Author.Rules.{rules}
 use Rattle.lines.proofs.put_carrier.Goals as goal
 
 pub returns : goal.returns

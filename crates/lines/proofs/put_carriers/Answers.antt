@@ -1,11 +1,9 @@
 -- The loop's invariant: the lines of the carriers passed are written, each from its own part of the output. Assumes nothing.
-use Prim.Native.Nat.{◌+◌, ◌-◌, ◌≤◌}
+use Prim.Native.Nat.{◌+◌}
 use native.Mathlib.Omega.{arith}
-use mathlib.Core.Path.{◌≡◌, refl, ◌∙◌}
-use lib.ListN.{length}
+use mathlib.Core.Path.{refl, ◌∙◌}
 use Rattle.lists.proofs.Parts.{part_within}
-use Rattle.text.specs.Text.{page, put}
-use Rattle.lines.specs.Lines.{carrier_lines}
+use Rattle.text.specs.Text.{page}
 use Rattle.lines.proofs.LinesLaws.{carriers_none, carriers_more, carriers_whole}
 use Rattle.lines.proofs.put_carriers.Goals as goal
 

@@ -1,12 +1,9 @@
 -- The loop's invariant: the lines of the carriers passed are written, each from its own part of the output. Assumes nothing.
-use Prim.Native.Nat.{◌+◌, ◌-◌, ◌≤◌}
-use native.Mathlib.Omega.{arith}
-use mathlib.Core.Path.{◌≡◌, refl, ◌∙◌}
+use Prim.Native.Nat.{◌-◌, ◌≤◌}
+use mathlib.Core.Path.{◌≡◌}
 use lib.ListN.{length}
-use Rattle.lists.proofs.Parts.{part_within}
 use Rattle.text.specs.Text.{page, put}
 use Rattle.lines.specs.Lines.{carrier_lines}
-use Rattle.lines.proofs.LinesLaws.{carriers_none, carriers_more, carriers_whole}
 use Rattle.lines.proofs.put_carriers.Given as goal
 
 abbrev pub invariant-loop-i : goal.invariant-loop-i

@@ -1,7 +1,6 @@
 -- A space and then the number. Assumes nothing.
 use Rattle.text.specs.Text.{page}
 use Rattle.lines.proofs.LinesLaws.{cell_put}
-use borrow.Author.Rules.{rules}
 use Rattle.lines.proofs.put_cell.Goals as goal
 
 pub returns : goal.returns

@@ -1,10 +1,7 @@
 -- The loop's invariant: the cells passed are written. Assumes nothing.
-use Prim.Native.Nat.{◌-◌, ◌≤◌}
 use native.Mathlib.Omega.{arith}
-use mathlib.Core.Path.{◌≡◌, refl, ◌∙◌}
-use lib.ListN.{length, take}
-use Rattle.text.specs.Text.{page, put}
-use Rattle.lines.specs.Lines.{cells_text}
+use mathlib.Core.Path.{refl, ◌∙◌}
+use Rattle.text.specs.Text.{page}
 use Rattle.lines.proofs.LinesLaws.{cells_none, cells_more, cells_whole}
 use Rattle.lines.proofs.put_cells.Goals as goal
 

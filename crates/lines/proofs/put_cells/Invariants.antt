@@ -1,11 +1,9 @@
 -- The loop's invariant: the cells passed are written. Assumes nothing.
 use Prim.Native.Nat.{◌-◌, ◌≤◌}
-use native.Mathlib.Omega.{arith}
-use mathlib.Core.Path.{◌≡◌, refl, ◌∙◌}
+use mathlib.Core.Path.{◌≡◌}
 use lib.ListN.{length, take}
 use Rattle.text.specs.Text.{page, put}
 use Rattle.lines.specs.Lines.{cells_text}
-use Rattle.lines.proofs.LinesLaws.{cells_none, cells_more, cells_whole}
 use Rattle.lines.proofs.put_cells.Given as goal
 
 abbrev pub invariant-loop-i : goal.invariant-loop-i

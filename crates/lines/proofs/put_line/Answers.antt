@@ -1,7 +1,6 @@
 -- The word, the number and the newline, one after the other, are the line. Assumes nothing.
 use Rattle.text.specs.Text.{page}
 use Rattle.lines.proofs.LinesLaws.{line_put}
-use borrow.Author.Rules.{rules}
 use Rattle.lines.proofs.put_line.Goals as goal
 
 pub returns : goal.returns

@@ -1,7 +1,6 @@
 -- The parts, one after the other. Assumes nothing.
 use Rattle.text.specs.Text.{page}
 use Rattle.lines.proofs.LinesLaws.{plan_put}
-use borrow.Author.Rules.{rules}
 use Rattle.lines.proofs.put_plan.Goals as goal
 
 pub returns : goal.returns

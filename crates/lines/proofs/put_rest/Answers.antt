@@ -1,7 +1,6 @@
 -- Each return is the case of its number. Assumes nothing.
 use Rattle.text.specs.Text.{page}
 use Rattle.lines.proofs.LinesLaws.{rest_0, rest_5, rest_6, rest_16, rest_7, rest_8, rest_9, rest_none}
-use borrow.Author.Rules.{rules}
 use Rattle.lines.proofs.put_rest.Goals as goal
 
 pub returns-then-number-eq0 : goal.returns-then-number-eq0

@@ -1,7 +1,6 @@
 -- Two lines, one after the other. Assumes nothing.
 use Rattle.text.specs.Text.{page}
 use Rattle.lines.proofs.LinesLaws.{short_put}
-use borrow.Author.Rules.{rules}
 use Rattle.lines.proofs.put_short.Goals as goal
 
 pub returns : goal.returns

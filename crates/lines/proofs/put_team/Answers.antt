@@ -3,7 +3,6 @@ use native.Mathlib.Omega.{arith}
 use Rattle.job.proofs.Accepted.{plan_small}
 use Rattle.text.specs.Text.{page}
 use Rattle.lines.proofs.LinesLaws.{team_many, team_late, team_short, team_put}
-use borrow.Author.Rules.{rules}
 use Rattle.lines.proofs.put_team.Goals as goal
 
 pub returns-then-team-gt-MOST_CARRIERS : goal.returns-then-team-gt-MOST_CARRIERS

@@ -1,7 +1,6 @@
 -- The first line and then the rest. Assumes nothing.
 use Rattle.text.specs.Text.{page}
 use Rattle.lines.proofs.LinesLaws.{told-put}
-use borrow.Author.Rules.{rules}
 use Rattle.lines.proofs.told_lines.Goals as goal
 
 pub returns : goal.returns

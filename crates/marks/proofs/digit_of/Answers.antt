@@ -1,6 +1,5 @@
 -- `marks::digit_of` meets its contract, by the five moves. Assumes nothing.
 use Rattle.marks.proofs.Digits.{weight}
-use borrow.Author.Rules.{rules}
 use Rattle.marks.proofs.digit_of.Goals as goal
 
 pub returns : goal.returns

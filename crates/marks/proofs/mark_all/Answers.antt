@@ -1,6 +1,5 @@
 -- `marks::mark_all` meets its contract: cleared layers are marked for no bars, then the chain and the new bar are marked. Assumes nothing.
 use Rattle.marks.proofs.More.{all_told}
-use borrow.Author.Rules.{rules}
 use Rattle.marks.proofs.mark_all.Goals as goal
 
 pub returns : goal.returns

@@ -1,6 +1,5 @@
 -- `marks::mark_bar` meets its contract, by the bar's cases. Assumes nothing.
 use Rattle.marks.proofs.More.{told_free, told_stay, told_cross}
-use borrow.Author.Rules.{rules}
 use Rattle.marks.proofs.mark_bar.Goals as goal
 
 pub returns-in-Free : goal.returns-in-Free

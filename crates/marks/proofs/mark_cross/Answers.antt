@@ -3,7 +3,6 @@
 use native.Mathlib.Omega.{arith}
 use Rattle.marks.proofs.Places.{size_small, bounds}
 use Rattle.marks.proofs.Crossings.{cross_late, cross_outside, cross_far, cross_marked}
-use borrow.Author.Rules.{rules}
 use Rattle.marks.proofs.mark_cross.Goals as goal
 
 pub returns-then-h-step : goal.returns-then-h-step

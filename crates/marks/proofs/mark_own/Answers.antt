@@ -2,7 +2,6 @@
 -- binds this one its bar is marked. Assumes nothing.
 use mathlib.Core.Path.{sym, ◌∙◌}
 use Rattle.marks.proofs.More.{own_other, own_marked}
-use borrow.Author.Rules.{rules}
 use Rattle.marks.proofs.mark_own.Goals as goal
 
 pub returns-then-entry_at-carrier : goal.returns-then-entry_at-carrier

@@ -1,11 +1,9 @@
 -- `marks::mark_stay` meets its contract: steps first to t are marked, one more at each turn, and no other place has changed. Assumes nothing.
-use Prim.Native.Nat.{◌+◌, ◌-◌, ◌*◌, ◌≤◌, max}
+use Prim.Native.Nat.{◌+◌, ◌*◌}
 use native.Mathlib.Omega.{arith}
-use lib.ListN.{length}
 use Rattle.lent.proofs.Keeping.{same_from, same_set}
-use Rattle.lent.specs.Lent.{SameFrom}
-use Rattle.marks.proofs.Places.{Bounds, size_small, bounds}
-use Rattle.marks.proofs.Stays.{Stayed, stayed_none, stayed_more, stayed_marked, stay_outside}
+use Rattle.marks.proofs.Places.{size_small, bounds}
+use Rattle.marks.proofs.Stays.{stayed_none, stayed_more, stayed_marked, stay_outside}
 use Rattle.marks.proofs.mark_stay.Goals as goal
 
 pub overflow_mul-size : goal.overflow_mul-size

@@ -1,11 +1,7 @@
 -- `marks::mark_stay` meets its contract: steps first to t are marked, one more at each turn, and no other place has changed. Assumes nothing.
 use Prim.Native.Nat.{◌+◌, ◌-◌, ◌*◌, ◌≤◌, max}
-use native.Mathlib.Omega.{arith}
-use lib.ListN.{length}
-use Rattle.lent.proofs.Keeping.{same_from, same_set}
 use Rattle.lent.specs.Lent.{SameFrom}
-use Rattle.marks.proofs.Places.{Bounds, size_small, bounds}
-use Rattle.marks.proofs.Stays.{Stayed, stayed_none, stayed_more, stayed_marked, stay_outside}
+use Rattle.marks.proofs.Stays.{Stayed}
 use Rattle.marks.proofs.mark_stay.Given as goal
 
 abbrev pub invariant-loop-t : goal.invariant-loop-t

@@ -1,12 +1,11 @@
 -- `marks::mark_up` meets its contract: what is left to mark is the chain of the record at hand. Its own bar is marked, and the chain goes
 -- on at the next ancestor that binds, whose number is smaller; the root's own bar is the last. Assumes nothing.
 use native.Mathlib.Omega.{arith}
-use mathlib.Core.Path.{◌≡◌, refl, ◌∙◌}
-use lib.ListN.{length}
+use mathlib.Core.Path.{refl, ◌∙◌}
 use Rattle.routes.specs.Bars.{bars_for}
-use Rattle.records.specs.Columns.{chain_of, Falls}
+use Rattle.records.specs.Columns.{chain_of}
 use Rattle.marks.proofs.Above.{falls_above}
-use Rattle.marks.proofs.More.{Left, still_layered, all_left, own_then, root_last}
+use Rattle.marks.proofs.More.{still_layered, all_left, own_then, root_last}
 use Rattle.marks.proofs.mark_up.Goals as goal
 
 pub loop-at-init : goal.loop-at-init

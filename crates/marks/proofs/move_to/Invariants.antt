@@ -1,10 +1,8 @@
 -- `marks::move_to` meets its contract: no move that was passed leads there, and the one returned does. Assumes nothing.
 use Prim.Native.Nat.{ℕ, ◌-◌, ◌≤◌, ◌<◌}
-use native.Mathlib.Omega.{arith}
 use mathlib.Core.Path.{◌≡◌}
 use mathlib.Core.Bool.{false}
 use Rattle.marks.specs.Post.{leads}
-use Rattle.marks.proofs.Crossings.{row_small, col_small, passed_none, passed_more, move_found, move_missing}
 use Rattle.marks.proofs.move_to.Given as goal
 
 abbrev pub invariant-loop-m : goal.invariant-loop-m

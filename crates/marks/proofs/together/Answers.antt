@@ -1,6 +1,5 @@
 -- `marks::together` meets its contract: the two fields are made one by one. Assumes nothing.
 use Rattle.marks.proofs.Bearings.{both_made}
-use borrow.Author.Rules.{rules}
 use Rattle.marks.proofs.together.Goals as goal
 
 pub returns : goal.returns

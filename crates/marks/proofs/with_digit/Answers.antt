@@ -3,7 +3,6 @@ use Prim.Native.Nat.{◌^◌}
 use native.Mathlib.Omega.{arith}
 use mathlib.Core.Path.{refl}
 use Rattle.marks.proofs.Digits.{digit_fits, digit_added, digit_there}
-use borrow.Author.Rules.{rules}
 use Rattle.marks.proofs.with_digit.Goals as goal
 
 pub overflow_shr-mark : goal.overflow_shr-mark

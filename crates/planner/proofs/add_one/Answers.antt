@@ -1,5 +1,4 @@
 -- By what became of the child, one law for each. Assumes nothing.
-use borrow.Author.Rules.{rules}
 use Rattle.children.specs.Steps.{job_on}
 use Rattle.planner.proofs.Children.{nothing_changed, one_nothing, one_made, one_full}
 use Rattle.planner.proofs.add_one.Goals as goal

@@ -1,6 +1,5 @@
 -- By what became of the first child; the second one is added to what the first left. Assumes nothing.
 use native.Mathlib.Omega.{arith}
-use borrow.Author.Rules.{rules}
 use Rattle.children.specs.Steps.{job_on}
 use Rattle.planner.specs.Steps.{one_of, two_of}
 use Rattle.planner.proofs.Tails.{kept_after, ready_after}

@@ -1,7 +1,6 @@
 -- The cell stands inside the node's stretch, and it is the one that the node's routes have. Assumes nothing.
 use Prim.Native.Nat.{◌+◌, ◌*◌}
 use native.Mathlib.Omega.{arith}
-use borrow.Author.Rules.{rules}
 use Rattle.planner.proofs.Cells.{cell_inside, cell_read}
 use Rattle.planner.proofs.cell_of.Goals as goal
 

@@ -1,7 +1,6 @@
 -- The stretch stands inside the plans. Assumes nothing.
 use native.Mathlib.Omega.{arith}
 use mathlib.Core.Path.{◌∙◌}
-use borrow.Author.Rules.{rules}
 use Rattle.planner.proofs.Cells.{stretch_inside, clash_read}
 use Rattle.planner.proofs.clash_at.Goals as goal
 

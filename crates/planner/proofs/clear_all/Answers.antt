@@ -4,7 +4,6 @@ use native.Mathlib.Omega.{arith}
 use mathlib.Core.Path.{ap, ◌∙◌}
 use Rattle.lent.specs.Lent.{zeroed}
 use Rattle.planner.proofs.Answers.{plans_small}
-use borrow.Author.Rules.{rules}
 use Rattle.planner.proofs.clear_all.Goals as goal
 
 pub overflow_mul-capacity-2 : goal.overflow_mul-capacity-2

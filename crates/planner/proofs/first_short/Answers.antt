@@ -1,7 +1,6 @@
 -- The four tests in their order; all products are small. Assumes nothing.
 use native.Mathlib.Omega.{arith}
 use Rattle.planner.proofs.Answers.{plans_small, short_columns, short_plans_lem, short_layers, short_output, all_long}
-use borrow.Author.Rules.{rules}
 use Rattle.planner.proofs.first_short.Goals as goal
 
 pub returns-then-columns-needed : goal.returns-then-columns-needed

@@ -1,6 +1,4 @@
 -- No root, and the tree has no node; or the search from the root is the tree's. Assumes nothing.
-use borrow.Author.Tests.{not-true, not-false}
-use borrow.Author.Rules.{rules}
 use Rattle.children.specs.Steps.{job_on}
 use Rattle.planner.proofs.Tails.{kept_after, ready_after}
 use Rattle.planner.proofs.Turns.{tree_none, tree_ended, root_sound}

@@ -1,7 +1,6 @@
 -- All products are small. Assumes nothing.
 use native.Mathlib.Omega.{arith}
 use Rattle.hall.proofs.HallCode.{area_small, layers_small}
-use borrow.Author.Rules.{rules}
 use Rattle.planner.proofs.layers_of.Goals as goal
 
 pub overflow_mul-result : goal.overflow_mul-result

@@ -1,6 +1,5 @@
 -- Closing the node takes it from the open ones and changes no other; its children come after them. Assumes nothing.
 use native.Mathlib.Omega.{arith}
-use borrow.Author.Rules.{rules}
 use Rattle.children.specs.Steps.{job_on}
 use Rattle.planner.specs.Steps.{one_of, two_of}
 use Rattle.planner.proofs.Turns.{shut_sound, shut_parted}

@@ -1,6 +1,5 @@
 -- By the checks in their order, one law for each answer; an accepted job with long tables is ready for the search. Assumes nothing.
 use mathlib.Core.Path.{sym, ◌∙◌}
-use borrow.Author.Rules.{rules}
 use Rattle.job.specs.Team.{job_of}
 use Rattle.planner.proofs.Answers.{limits, ready, roomy, short_any, planned_refusal, planned_short, planned_ran}
 use Rattle.planner.proofs.plan.Goals as goal

@@ -1,6 +1,5 @@
 -- The search kept what lies past the least lengths, so the tables cleared are those at entry cleared. Assumes nothing.
 use native.Mathlib.Omega.{arith}
-use borrow.Author.Rules.{rules}
 use Rattle.tree.specs.Tree.{tree}
 use Rattle.children.specs.Steps.{job_on}
 use Rattle.planner.proofs.Written.{ended_placed, ran}

@@ -1,11 +1,7 @@
 -- The loop's invariant: the tables are in order, what lies past their least lengths is as it was, and what is left of the search from
 -- them is what was left at the start. The measure is the records left and the open nodes. Assumes nothing.
-use Prim.Native.Nat.{◌+◌, ◌-◌}
-use mathlib.Core.Path.{◌≡◌, refl}
-use borrow.Author.Rules.{rules}
-use lib.ListN.{length}
-use Rattle.tables.specs.State.{live, Sound}
-use Rattle.children.specs.Steps.{job_on, Ready, Kept}
+use mathlib.Core.Path.{refl}
+use Rattle.children.specs.Steps.{job_on}
 use Rattle.planner.specs.Steps.{tree_from}
 use Rattle.planner.proofs.Tails.{kept_self, kept_after, ready_after}
 use Rattle.planner.proofs.Turns.{end_spent, end_clear, end_full, on_sound, on_from, on_less}

@@ -1,7 +1,6 @@
 -- A chosen clash names carriers and steps that there are, so its bars fit their columns; the two children are the node's kids.
 -- Assumes nothing.
 use native.Mathlib.Omega.{arith}
-use borrow.Author.Rules.{rules}
 use Rattle.tables.specs.State.{node_at}
 use Rattle.children.specs.Steps.{job_on}
 use Rattle.planner.proofs.Turns.{split_clear, split_meeting, split_swap}

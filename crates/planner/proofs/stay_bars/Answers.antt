@@ -1,6 +1,5 @@
 -- `planner::stay_bars` meets its contract: each is barred as long as the other may slip. Assumes nothing.
 use native.Mathlib.Omega.{arith}
-use borrow.Author.Rules.{rules}
 use Rattle.planner.proofs.stay_bars.Goals as goal
 
 pub overflow_add-one : goal.overflow_add-one

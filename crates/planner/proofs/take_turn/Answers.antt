@@ -1,5 +1,4 @@
 -- No node is open, or the first of least sum is parted. Assumes nothing.
-use borrow.Author.Rules.{rules}
 use Rattle.tables.proofs.Taking.{least_of_lem, taken_inside}
 use Rattle.children.specs.Steps.{job_on}
 use Rattle.planner.proofs.Turns.{turn_spent, turn_taken}

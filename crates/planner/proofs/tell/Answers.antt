@@ -2,7 +2,6 @@
 use Prim.Native.Nat.{◌+◌, ◌*◌}
 use native.Mathlib.Omega.{arith}
 use mathlib.Core.Path.{refl}
-use borrow.Author.Rules.{rules}
 use Rattle.planner.proofs.Cells.{stretch_inside}
 use Rattle.planner.proofs.Written.{end_placed, told_spent, told_full, told_clear}
 use Rattle.planner.proofs.tell.Goals as goal

@@ -1,7 +1,6 @@
 -- `records::bar_at` meets its contract: the entries read are those of the definition, and it goes by the kind as the code does. Assumes nothing.
 use Rattle.routes.specs.declared.Bar.TheVariants.{Free, Stay, Cross}
 use Rattle.records.proofs.Own.{kind_stay, kind_crossing, kind_free, bar_of_entries}
-use borrow.Author.Rules.{rules}
 use Rattle.records.proofs.bar_at.Goals as goal
 
 pub returns-then-kind-eq-STAY : goal.returns-then-kind-eq-STAY

@@ -3,7 +3,6 @@ use Prim.Native.Nat.{◌+◌, ◌*◌}
 use native.Mathlib.Omega.{arith}
 use lib.ListN.{length}
 use Rattle.records.proofs.Own.{entry_place}
-use borrow.Author.Rules.{rules}
 use Rattle.records.proofs.entry_at.Goals as goal
 
 pub overflow_mul-result : goal.overflow_mul-result

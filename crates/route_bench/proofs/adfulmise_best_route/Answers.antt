@@ -2,7 +2,6 @@
 use Rattle.route_bench.specs.Answer.{RightArguments, hall_of, bars_at}
 use Rattle.route_bench.proofs.Telling.{holds, fails}
 use Rattle.route_bench.proofs.Answering.{refused, answered}
-use borrow.Author.Rules.{rules}
 use Rattle.route_bench.proofs.adfulmise_best_route.Goals as goal
 
 pub returns-then-not-right_arguments : goal.returns-then-not-right_arguments

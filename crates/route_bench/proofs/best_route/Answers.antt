@@ -1,8 +1,6 @@
 -- `route_bench::best_route` meets its contract: right arguments are what seeking and writing ask, and no bar is added. Assumes nothing.
-use native.Mathlib.Omega.{arith}
 use Rattle.route_bench.specs.Answer.{hall_of}
 use Rattle.route_bench.proofs.Answering.{none_answered, cost_answered}
-use borrow.Author.Rules.{rules}
 use Rattle.route_bench.proofs.best_route.Goals as goal
 
 pub returns-in-Nothing : goal.returns-in-Nothing

@@ -1,5 +1,4 @@
 -- `route_bench::parents_fall` meets its contract: the parents passed are below their nodes, so all are at the end. Assumes nothing.
-use Prim.Native.Nat.{ℕ, ◌≤◌, ◌<◌, ◌+◌, ◌-◌}
 use native.Mathlib.Omega.{arith}
 use Rattle.records.specs.Columns.{parent_at}
 use Rattle.route_bench.specs.Answer.{Tells}

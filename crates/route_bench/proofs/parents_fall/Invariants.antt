@@ -1,9 +1,6 @@
 -- `route_bench::parents_fall` meets its contract: the parents passed are below their nodes, so all are at the end. Assumes nothing.
 use Prim.Native.Nat.{ℕ, ◌≤◌, ◌<◌, ◌+◌, ◌-◌}
-use native.Mathlib.Omega.{arith}
 use Rattle.records.specs.Columns.{parent_at}
-use Rattle.route_bench.specs.Answer.{Tells}
-use Rattle.route_bench.proofs.Telling.{one_further}
 use Rattle.route_bench.proofs.parents_fall.Given as goal
 
 abbrev pub invariant-loop-y : goal.invariant-loop-y

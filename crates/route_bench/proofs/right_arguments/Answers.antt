@@ -1,5 +1,4 @@
 -- `route_bench::right_arguments` meets its contract: each test tells one of the facts, and the last decides. Assumes nothing.
-use borrow.Author.Rules.{rules}
 use Prim.Native.Nat.{◌*◌}
 use native.Mathlib.Omega.{arith}
 use Rattle.hall.proofs.HallCode.{area_small}

@@ -1,5 +1,4 @@
 -- `route_bench::right_records` meets its contract: each test is one of the facts, and the walk decides. Assumes nothing.
-use borrow.Author.Rules.{rules}
 use native.Mathlib.Omega.{arith}
 use Rattle.route_bench.specs.Answer.{Tells}
 use Rattle.route_bench.proofs.right_records.Goals as goal

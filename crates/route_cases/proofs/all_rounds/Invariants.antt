@@ -1,5 +1,4 @@
 -- `route_cases::all_rounds` is safe and ends: each turn counts at most one more. Assumes nothing.
-use borrow.Author.Rules.{rules}
 use Prim.Native.Nat.{◌-◌, ◌≤◌}
 use Rattle.route_cases.proofs.all_rounds.Given as goal
 

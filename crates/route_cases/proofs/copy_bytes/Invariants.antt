@@ -1,5 +1,4 @@
 -- `route_cases::copy_bytes` is safe and ends: each turn writes the next of 9 bytes. Assumes nothing.
-use borrow.Author.Rules.{rules}
 use Prim.Native.Nat.{◌-◌, ◌≤◌}
 use mathlib.Core.Path.{◌≡◌}
 use lib.ListN.{length}

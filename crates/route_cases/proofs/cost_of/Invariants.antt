@@ -1,5 +1,4 @@
 -- `route_cases::cost_of` meets its contract: the cost is no more than the steps looked at. Assumes nothing.
-use borrow.Author.Rules.{rules}
 use Prim.Native.Nat.{◌-◌, ◌≤◌}
 use Rattle.route_cases.proofs.cost_of.Given as goal
 

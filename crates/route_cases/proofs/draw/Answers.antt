@@ -1,5 +1,4 @@
 -- `route_cases::draw` meets its contract: a remainder is below what it is taken by. Assumes nothing.
-use borrow.Author.Rules.{rules}
 use Prim.Native.Nat.{◌/◌}
 use native.Mathlib.Nat.{mod-lt}
 use Rattle.route_cases.proofs.draw.Goals as goal

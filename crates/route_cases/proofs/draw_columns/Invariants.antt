@@ -1,5 +1,4 @@
 -- `route_cases::draw_columns` is safe and ends: each turn makes the record of the next of 8 nodes. Assumes nothing.
-use borrow.Author.Rules.{rules}
 use Prim.Native.Nat.{◌-◌, ◌≤◌}
 use mathlib.Core.Path.{◌≡◌}
 use lib.ListN.{length}

@@ -1,5 +1,4 @@
 -- `route_cases::draw_hall` is safe and ends: each turn writes one byte of those left. Assumes nothing.
-use borrow.Author.Rules.{rules}
 use Prim.Native.Nat.{◌-◌, ◌≤◌}
 use mathlib.Core.Path.{◌≡◌}
 use lib.ListN.{length}

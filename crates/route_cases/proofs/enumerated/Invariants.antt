@@ -1,5 +1,4 @@
 -- `route_cases::enumerated` is safe and ends: each turn tries the next way. Assumes nothing.
-use borrow.Author.Rules.{rules}
 use Prim.Native.Nat.{◌-◌, ◌≤◌}
 use mathlib.Core.Path.{◌≡◌}
 use lib.ListN.{length}

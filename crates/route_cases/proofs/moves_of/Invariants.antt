@@ -1,5 +1,4 @@
 -- `route_cases::moves_of` meets its contract: the moves are no more than the steps looked at. Assumes nothing.
-use borrow.Author.Rules.{rules}
 use Prim.Native.Nat.{◌-◌, ◌≤◌}
 use Rattle.route_cases.proofs.moves_of.Given as goal
 

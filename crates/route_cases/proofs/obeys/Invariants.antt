@@ -1,5 +1,4 @@
 -- `route_cases::obeys` is safe and ends: each turn goes up by one of 8 records. Assumes nothing.
-use borrow.Author.Rules.{rules}
 use Prim.Native.Nat.{◌-◌, ◌≤◌}
 use Rattle.route_cases.proofs.obeys.Given as goal
 

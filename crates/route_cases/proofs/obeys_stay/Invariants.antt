@@ -1,5 +1,4 @@
 -- `route_cases::obeys_stay` is safe and ends: each turn looks at the next of 6 steps. Assumes nothing.
-use borrow.Author.Rules.{rules}
 use Prim.Native.Nat.{◌-◌, ◌≤◌}
 use Rattle.route_cases.proofs.obeys_stay.Given as goal
 

@@ -1,5 +1,4 @@
 -- `route_cases::same_bytes` is safe and ends: each turn compares the next of 9 bytes. Assumes nothing.
-use borrow.Author.Rules.{rules}
 use Prim.Native.Nat.{◌-◌, ◌≤◌}
 use Rattle.route_cases.proofs.same_bytes.Given as goal
 

@@ -1,5 +1,4 @@
 -- `route_cases::walk` is safe and ends: each turn takes the next of h moves. Assumes nothing.
-use borrow.Author.Rules.{rules}
 use Prim.Native.Nat.{◌-◌, ◌≤◌}
 use mathlib.Core.Path.{◌≡◌}
 use lib.ListN.{length}

@@ -1,7 +1,6 @@
 -- The loop's invariant: the bytes of the first m moves are made. Assumes nothing.
 use Prim.Native.Nat.{◌-◌}
-use native.Mathlib.Omega.{arith}
-use Rattle.shuts.proofs.Moves.{crossing_mark, MovesMade, moves_none, moves_more, crossings_laid}
+use Rattle.shuts.proofs.Moves.{crossing_mark, MovesMade}
 use Rattle.shuts.proofs.lay_crossings.Given as goal
 
 abbrev pub invariant-loop-m : goal.invariant-loop-m

@@ -2,7 +2,6 @@
 use Prim.Native.Nat.{◌*◌, ◌≤◌}
 use native.Mathlib.Omega.{arith}
 use lib.ListN.{length}
-use borrow.Author.Rules.{rules}
 use Rattle.hall.proofs.HallCode.{area_small}
 use Rattle.shuts.specs.Post.{lent_hall}
 use Rattle.shuts.proofs.FloorLaws.{floor_laid}

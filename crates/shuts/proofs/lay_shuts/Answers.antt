@@ -1,5 +1,4 @@
 -- `shuts::lay_shuts` meets its contract: the bars are laid, or all is as it was. Assumes nothing.
-use borrow.Author.Rules.{rules}
 use Rattle.shuts.proofs.Laid.{barred_laid, nothing_laid}
 use Rattle.shuts.proofs.lay_shuts.Goals as goal
 

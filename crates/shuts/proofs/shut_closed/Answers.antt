@@ -1,7 +1,5 @@
 -- The loop's invariant: of the bytes that tell the closed cells the first v are made. Assumes nothing.
-use Prim.Native.Nat.{◌-◌, ◌≤◌}
 use native.Mathlib.Omega.{arith}
-use Rattle.lent.specs.Made.{Made}
 use Rattle.lent.proofs.MadeLaws.{made_none, made_all, made_more}
 use Rattle.shuts.proofs.Moves.{closed_mark}
 use Rattle.shuts.proofs.shut_closed.Goals as goal

@@ -1,11 +1,6 @@
 -- The loop's invariant: of the move's bytes the first v are made. Assumes nothing.
-use Prim.Native.Nat.{◌+◌, ◌-◌, ◌*◌, max, ◌≤◌}
-use native.Mathlib.Omega.{arith}
-use mathlib.Core.Path.{ap, ◌∙◌}
-use lib.ListN.{get_or}
+use Prim.Native.Nat.{◌-◌, ◌*◌, ◌≤◌}
 use Rattle.lent.specs.Made.{Made}
-use Rattle.lent.proofs.MadeLaws.{made_none, made_all, made_more}
-use Rattle.shuts.specs.Shuts.{shut_if}
 use Rattle.shuts.proofs.Moves.{crossing_mark}
 use Rattle.shuts.proofs.shut_crossings.Given as goal
 

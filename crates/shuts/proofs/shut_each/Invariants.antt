@@ -1,7 +1,6 @@
 -- The loop's invariant: the cells below v are shut. Assumes nothing.
 use Prim.Native.Nat.{◌-◌}
-use native.Mathlib.Omega.{arith}
-use Rattle.shuts.proofs.Each.{EachTo, each_none, each_more, each_all}
+use Rattle.shuts.proofs.Each.{EachTo}
 use Rattle.shuts.proofs.shut_each.Given as goal
 
 abbrev pub invariant-loop-v : goal.invariant-loop-v

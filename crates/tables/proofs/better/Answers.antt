@@ -1,7 +1,6 @@
 -- By the cases of the test and of the best so far, one law for each. Assumes nothing.
 use native.Mathlib.Omega.{arith}
 use Rattle.tables.proofs.Taking.{keep_best, take_only, take_later, keep_earlier, least_of_lem, taken_inside}
-use borrow.Author.Rules.{rules}
 use Rattle.tables.proofs.better.Goals as goal
 
 pub returns-then-columns-capacity-eq-IS_CLOSED : goal.returns-then-columns-capacity-eq-IS_CLOSED

@@ -1,7 +1,6 @@
 -- By the bar's cases. Assumes nothing.
 use mathlib.Core.Path.{sym, ap}
 use Rattle.tables.specs.Post.{code_of}
-use borrow.Author.Rules.{rules}
 use Rattle.tables.proofs.code_of.Goals as goal
 
 pub returns-in-Free : goal.returns-in-Free

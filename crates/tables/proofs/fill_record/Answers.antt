@@ -1,7 +1,5 @@
 -- The loop's invariant: the first entries of the record, up to `column`, are written. Assumes nothing.
-use Prim.Native.Nat.{◌≤◌, ◌-◌}
 use native.Mathlib.Omega.{arith}
-use Rattle.tables.specs.Post.{Entered}
 use Rattle.tables.proofs.Records.{earlier_column, entered_none, entered_more, entered_all}
 use Rattle.tables.proofs.fill_record.Goals as goal
 

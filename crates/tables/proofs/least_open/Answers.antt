@@ -1,7 +1,5 @@
 -- The loop's invariant: `best` is the open node of least sum among the first `node`. Assumes nothing.
-use Prim.Native.Nat.{◌≤◌, ◌-◌}
 use native.Mathlib.Omega.{arith}
-use Rattle.tables.specs.Post.{LeastFact}
 use Rattle.tables.proofs.Taking.{among_none, among_all}
 use Rattle.tables.proofs.least_open.Goals as goal
 

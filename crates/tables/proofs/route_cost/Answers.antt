@@ -1,10 +1,6 @@
 -- The loop's invariant: the cost of the route is that of its first `end` cells, since all later ones are on the goal.
 -- Assumes nothing.
-use Prim.Native.Nat.{◌≤◌}
 use native.Mathlib.Omega.{arith}
-use mathlib.Core.Path.{◌≡◌}
-use lib.ListN.{length, take}
-use Rattle.routes.specs.Route.{cost}
 use Rattle.tables.proofs.Costs.{cost_whole, cost_none, cost_shorter, cost_here}
 use Rattle.tables.proofs.route_cost.Goals as goal
 

@@ -1,7 +1,6 @@
 -- The loop's invariant: the total is that of the first i routes, each a part of the stretch. Assumes nothing.
-use Prim.Native.Nat.{◌≤◌, ◌-◌, ◌+◌}
+use Prim.Native.Nat.{◌+◌}
 use native.Mathlib.Omega.{arith}
-use mathlib.Core.Path.{◌≡◌}
 use Rattle.lists.specs.Lists.{sum_to}
 use Rattle.lists.proofs.Loops.{at_end}
 use Rattle.lists.proofs.Parts.{part_within, part_next}

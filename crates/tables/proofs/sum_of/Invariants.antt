@@ -1,11 +1,8 @@
 -- The loop's invariant: the total is that of the first i routes, each a part of the stretch. Assumes nothing.
-use Prim.Native.Nat.{◌≤◌, ◌-◌, ◌+◌}
-use native.Mathlib.Omega.{arith}
+use Prim.Native.Nat.{◌≤◌, ◌-◌}
 use mathlib.Core.Path.{◌≡◌}
 use Rattle.lists.specs.Lists.{sum_to}
-use Rattle.lists.proofs.Loops.{at_end}
-use Rattle.lists.proofs.Parts.{part_within, part_next}
-use Rattle.tables.proofs.Costs.{cost_in, costs_none, costs_more, costs_at_most}
+use Rattle.tables.proofs.Costs.{cost_in}
 use Rattle.tables.proofs.sum_of.Given as goal
 
 abbrev pub invariant-loop-i : goal.invariant-loop-i

@@ -1,7 +1,6 @@
 -- The values of the record are the numbers given, with the bar's in between. Assumes nothing.
 use native.Mathlib.Omega.{arith}
 use Rattle.tables.proofs.Records.{code_fits, recorded}
-use borrow.Author.Rules.{rules}
 use Rattle.tables.proofs.write_record.Goals as goal
 
 pub overflow_cast-values-2 : goal.overflow_cast-values-2

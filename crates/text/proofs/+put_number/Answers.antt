@@ -1,5 +1,4 @@
 -- A number from ten on is written as its tenth and then its last digit; the number falls with each call. Assumes nothing.
-use mathlib.Core.Path.{◌∙◌}
 use Rattle.text.specs.Text.{page}
 use Rattle.text.proofs.TextLaws.{number_one, number_more}
 use Rattle.text.proofs.+put_number.Goals as goal

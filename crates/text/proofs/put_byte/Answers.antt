@@ -1,5 +1,4 @@
 -- The two ways to put a byte, inside the buffer and past its end, are the two cases of the definition. Assumes nothing.
-use borrow.Author.Rules.{rules}
 use Rattle.text.proofs.TextLaws.{byte_inside, byte_past}
 use Rattle.text.proofs.put_byte.Goals as goal
 

@@ -1,9 +1,7 @@
 -- The loop's invariant: the bytes passed are written. Assumes nothing.
-use Prim.Native.Nat.{◌-◌, ◌≤◌}
 use native.Mathlib.Omega.{arith}
-use mathlib.Core.Path.{◌≡◌, refl, ◌∙◌}
-use lib.ListN.{length, take}
-use Rattle.text.specs.Text.{page, put}
+use mathlib.Core.Path.{refl, ◌∙◌}
+use Rattle.text.specs.Text.{page}
 use Rattle.text.proofs.TextLaws.{word_none, word_more, word_whole}
 use Rattle.text.proofs.put_word.Goals as goal
 

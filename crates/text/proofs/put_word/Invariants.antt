@@ -1,10 +1,8 @@
 -- The loop's invariant: the bytes passed are written. Assumes nothing.
 use Prim.Native.Nat.{◌-◌, ◌≤◌}
-use native.Mathlib.Omega.{arith}
-use mathlib.Core.Path.{◌≡◌, refl, ◌∙◌}
+use mathlib.Core.Path.{◌≡◌}
 use lib.ListN.{length, take}
 use Rattle.text.specs.Text.{page, put}
-use Rattle.text.proofs.TextLaws.{word_none, word_more, word_whole}
 use Rattle.text.proofs.put_word.Given as goal
 
 abbrev pub invariant-loop-i : goal.invariant-loop-i

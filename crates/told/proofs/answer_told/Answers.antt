@@ -1,5 +1,4 @@
 -- `answer_told` meets its contract: each arm is a case of the definition. Assumes nothing.
-use borrow.Author.Rules.{rules}
 use mathlib.Core.Path.{sym, ap, ◌∙◌}
 use Rattle.planner.specs.Answer.{answer_told}
 use Rattle.told.proofs.answer_told.Goals as goal

@@ -1,5 +1,4 @@
 -- `clash_told` meets its contract: each arm is a case of the definition. Assumes nothing.
-use borrow.Author.Rules.{rules}
 use mathlib.Core.Path.{sym, ap, ◌∙◌}
 use Rattle.clashes.specs.Check.{clash_told}
 use Rattle.told.proofs.clash_told.Goals as goal

@@ -1,5 +1,4 @@
 -- `meeting_told` meets its contract: each arm is a case of the definition. Assumes nothing.
-use borrow.Author.Rules.{rules}
 use mathlib.Core.Path.{sym, ap, ◌∙◌}
 use Rattle.job.specs.Told.{refusal}
 use Rattle.clashes.specs.Check.{meeting_told}

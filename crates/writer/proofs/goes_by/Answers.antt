@@ -3,7 +3,6 @@
 use native.Mathlib.Omega.{arith}
 use Prim.Native.Nat.{◌/◌, ◌%◌}
 use Rattle.writer.proofs.StepLaws.{place_inside, landed_inside, goes_barred, goes_off, goes_there, goes_elsewhere}
-use borrow.Author.Rules.{rules}
 use Rattle.writer.proofs.goes_by.Goals as goal
 
 pub returns-then-has_digit : goal.returns-then-has_digit

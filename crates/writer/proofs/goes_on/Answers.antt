@@ -1,7 +1,6 @@
 -- `writer::goes_on` meets its contract: the first test decides, or else the second. Assumes nothing.
 use Rattle.writer.proofs.StepLaws.{goes_left, goes_late}
 use lib.ListN.{get_or}
-use borrow.Author.Rules.{rules}
 use Rattle.writer.proofs.goes_on.Goals as goal
 
 pub returns-then-t-h : goal.returns-then-t-h

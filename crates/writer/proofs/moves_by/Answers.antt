@@ -1,6 +1,5 @@
 -- `writer::moves_by` meets its contract: the stay is free, and any other move is one more. Assumes nothing.
 use Rattle.writer.proofs.StepLaws.{stay_free, move_paid}
-use borrow.Author.Rules.{rules}
 use Rattle.writer.proofs.moves_by.Goals as goal
 
 pub returns-then-m-eq-STAY : goal.returns-then-m-eq-STAY

@@ -1,9 +1,7 @@
 -- `writer::stay_on` meets its contract: what is written before s, and v from there on, is always the same. Assumes nothing.
-use Prim.Native.Nat.{◌-◌, ◌≤◌}
 use native.Mathlib.Omega.{arith}
-use mathlib.Core.Path.{◌≡◌, refl, sym, ◌∙◌}
-use mathlib.Core.List.{◌++◌}
-use lib.ListN.{length, take, replicate, length-set}
+use mathlib.Core.Path.{refl, sym, ◌∙◌}
+use lib.ListN.{length, length-set}
 use Rattle.writer.proofs.StayLaws.{stay_more, stay_ends}
 use Rattle.writer.proofs.stay_on.Goals as goal
 

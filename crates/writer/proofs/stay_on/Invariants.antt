@@ -1,10 +1,8 @@
 -- `writer::stay_on` meets its contract: what is written before s, and v from there on, is always the same. Assumes nothing.
 use Prim.Native.Nat.{◌-◌, ◌≤◌}
-use native.Mathlib.Omega.{arith}
-use mathlib.Core.Path.{◌≡◌, refl, sym, ◌∙◌}
+use mathlib.Core.Path.{◌≡◌}
 use mathlib.Core.List.{◌++◌}
-use lib.ListN.{length, take, replicate, length-set}
-use Rattle.writer.proofs.StayLaws.{stay_more, stay_ends}
+use lib.ListN.{length, take, replicate}
 use Rattle.writer.proofs.stay_on.Given as goal
 
 abbrev pub invariant-loop-s : goal.invariant-loop-s

@@ -1,10 +1,9 @@
 -- `writer::step_on` meets its contract: the first cell is that of the moves from m on. Assumes nothing.
 use native.Mathlib.Omega.{arith}
-use borrow.Author.Rules.{rules}
-use Prim.Native.Nat.{◌+◌, ◌-◌, ◌*◌}
+use Prim.Native.Nat.{◌+◌, ◌*◌}
 use lib.ListN.{get_or}
 use Rattle.marks.proofs.Places.{bounds, size_small}
-use Rattle.writer.proofs.StepLaws.{layer_inside, Tried, none_tried, move_found, move_passed, moves_end, step_read}
+use Rattle.writer.proofs.StepLaws.{layer_inside, none_tried, move_found, move_passed, moves_end, step_read}
 use Rattle.writer.proofs.step_on.Goals as goal
 
 pub overflow_mul-size : goal.overflow_mul-size

@@ -1,10 +1,6 @@
 -- `writer::step_on` meets its contract: the first cell is that of the moves from m on. Assumes nothing.
-use native.Mathlib.Omega.{arith}
-use borrow.Author.Rules.{rules}
-use Prim.Native.Nat.{◌+◌, ◌-◌, ◌*◌}
-use lib.ListN.{get_or}
-use Rattle.marks.proofs.Places.{bounds, size_small}
-use Rattle.writer.proofs.StepLaws.{layer_inside, Tried, none_tried, move_found, move_passed, moves_end, step_read}
+use Prim.Native.Nat.{◌-◌}
+use Rattle.writer.proofs.StepLaws.{Tried}
 use Rattle.writer.proofs.step_on.Given as goal
 
 abbrev pub invariant-loop-m : goal.invariant-loop-m

@@ -1,13 +1,11 @@
 -- `writer::write_route` meets its contract: what is written, then the way that is read from here, is the route. Assumes nothing.
 use native.Mathlib.Omega.{arith}
-use Prim.Native.Nat.{◌-◌}
 use mathlib.Core.Path.{sym, ◌∙◌}
 use Rattle.marks.proofs.Places.{bounds, size_small}
-use Rattle.writer.proofs.WriteLaws.{Writing, write_begins, turns_before, write_turn, write_stays}
+use Rattle.writer.proofs.WriteLaws.{write_begins, turns_before, write_turn, write_stays}
 use Rattle.writer.proofs.write_route.Goals as goal
+
 -- `writer::write_route` meets its contract: what is written, then the way that is read from here, is the route. Assumes nothing.
-use Rattle.writer.proofs.write_route.Statement.{statement}
-use Rattle.writer.proofs.write_route.Tie as tie
 
 pub overflow_mul-size : goal.overflow_mul-size
 overflow_mul-size c = omega (arith, size_small c.args.grid.width c.args.grid.height c.args.trip.horizon c.args.layers.now c.requires.0)
