@@ -68,8 +68,9 @@ extern "C" {
 #define ADFULMISE_OUTPUT_LENGTH(m, h) ((size_t)(m) * ((size_t)(h) + 1))
 
 /*
- * The stack that a call of adfulmise_plan with n records needs, and that each of the other three needs, in bytes. The planner goes up
- * the chain of a node's ancestors by recursion, at most n - 1 deep, and takes 32 bytes a level: 42 KB for n = 1024, 14 KB for n = 128.
+ * The stack that a call of adfulmise_plan with n records needs at most, and that each of the other three needs, in bytes. The planner
+ * goes up the chain of a node's ancestors by recursion, at most n - 1 deep, for which 32 bytes a level are counted, also where the
+ * compiler makes a loop of it: 42 KB for n = 1024, 14 KB for n = 128.
  * That includes what a linker takes that binds memset and memcpy, the two functions from outside, only when they are first called.
  */
 #define ADFULMISE_PLAN_STACK(n) ((size_t)10240 + (size_t)32 * (size_t)(n))

@@ -42,7 +42,7 @@ fn write_told(values: Told, told: &mut [usize])
     told[6] = values.needed;
 }
 
-// What an answer tells, and its number. It stands apart since only a function that is lent records has its proof by hand.
+// What an answer tells, and its number.
 fn tell_answer(answer: Answer, told: &mut [usize]) -> usize
     ensures { (result ≡ (answer_told answer).number) × (told.new ≡ written (told_values (answer_told answer)) told.old) }
 {

@@ -316,8 +316,8 @@ fn lay_arrival(
     slate: &mut [u8; SLATE],
     layers: &mut [u8],
 )
-    requires goal_lt_size { (goal < size) × (size ≤ 256) × (base + size ≤ length layers.old) }
-    requires slate_value { slate.old ≡ replicate 576 255 }
+    requires sizes_fit { (goal < size) × (size ≤ 256) × (base + size ≤ length layers.old) }
+    requires slate_clear { slate.old ≡ replicate 576 255 }
     ensures { ArrivalLaid goal level rest (λ v. get_or shuts.now (1280 + v) 0) size base layers.old slate.new layers.new }
 {
     let there = greater(
@@ -340,7 +340,7 @@ fn rest_end(
     slate: &mut [u8; SLATE],
     layers: &mut [u8],
 )
-    requires goal_lt_size { (goal < size) × (size ≤ 256) × (t < 63) × (base + size ≤ length layers.old) × (length slate.old ≡ 576) × IsHalf from }
+    requires sizes_fit { (goal < size) × (size ≤ 256) × (t < 63) × (base + size ≤ length layers.old) × (length slate.old ≡ 576) × IsHalf from }
     requires copied { Copied size base from slate.old layers.old }
     ensures { RestLaid moves goal t size base from slate.old layers.old slate.new layers.new }
 {
@@ -464,8 +464,8 @@ fn seek_whole(
     bound: Bound,
     layers: &mut [u8],
 ) -> u8
-    requires layered { Layered grid.width grid.height trip.horizon layers.old × Falls bound.capacity columns.now bound.node }
-    requires start_bound { (trip.start < grid.width * grid.height) × (trip.goal < grid.width * grid.height) }
+    requires layers_and_records { Layered grid.width grid.height trip.horizon layers.old × Falls bound.capacity columns.now bound.node }
+    requires ends_inside { (trip.start < grid.width * grid.height) × (trip.goal < grid.width * grid.height) }
     ensures { SoughtWhole grid floor.now trip (bound_by bound.capacity columns.now bound.node bound.carrier bound.bar) layers.old layers.new result }
 {
     let bearing = marks::mark_all(layers, grid, trip.horizon, columns, bound);
@@ -500,8 +500,8 @@ pub fn seek_route(
     bound: Bound,
     layers: &mut [u8],
 ) -> Sought
-    requires right_grid { RightGrid grid hall.now × Layered grid.width grid.height trip.horizon layers.old }
-    requires start_bound { (trip.start < grid.width * grid.height) × (trip.goal < grid.width * grid.height) × Falls bound.capacity columns.now bound.node }
+    requires grid_and_layers { RightGrid grid hall.now × Layered grid.width grid.height trip.horizon layers.old }
+    requires trip_and_records { (trip.start < grid.width * grid.height) × (trip.goal < grid.width * grid.height) × Falls bound.capacity columns.now bound.node }
     ensures { SoughtRoute (lent_hall grid hall.now) (bound_by bound.capacity columns.now bound.node bound.carrier bound.bar) trip.start trip.goal trip.horizon layers.old layers.new result }
 {
     let mut floor = [0; shuts::SHUTS];

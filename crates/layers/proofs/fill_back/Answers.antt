@@ -25,7 +25,7 @@ pub arrives-level-requires : goal.arrives-level-requires
 arrives-level-requires c = omega (arith, c.requires.0.late, c.requires.0.within)
 
 pub lay_arrival-requires : goal.lay_arrival-requires
-lay_arrival-requires c = let b = pass_bounds c.args.grid c.args.trip c.args.last c.args.layers.now c.requires.0 c.args.last (omega arith) in record { goal_lt_size = omega (arith, b.small, b.layer, c.requires.0.room, c.requires.0.inside, c.lay_marks.ensures.long); slate_value = refl }
+lay_arrival-requires c = let b = pass_bounds c.args.grid c.args.trip c.args.last c.args.layers.now c.requires.0 c.args.last (omega arith) in record { sizes_fit = omega (arith, b.small, b.layer, c.requires.0.room, c.requires.0.inside, c.lay_marks.ensures.long); slate_clear = refl }
 
 pub loop-t-init : goal.loop-t-init
 loop-t-init c = passing_begins c.args.grid c.args.floor.now c.args.moves c.args.crossing c.args.trip.goal ((c.args.trip.horizon + 1) * (c.args.grid.width * c.args.grid.height)) c.args.last c.lay_arrival.new.layers c.lay_arrival.new.slate c.lay_arrival.ensures.copied c.lay_arrival.ensures.wide c.lay_arrival.ensures.pads
@@ -52,7 +52,7 @@ pub overflow_sub-from : goal.overflow_sub-from
 overflow_sub-from c = omega (arith, half_small c.loop-t.from c.loop-t.invariant.half)
 
 pub rest_end-requires : goal.rest_end-requires
-rest_end-requires c = let b = pass_bounds c.args.grid c.args.trip c.args.last c.args.layers.now c.requires.0 (c.loop-t.t - 1) (omega (arith, c.loop-t.invariant.within)) in record { goal_lt_size = (c.requires.0.inside, b.small, omega (arith, c.loop-t-test.true, c.loop-t.invariant.within, c.requires.0.within, c.requires.0.late), omega (arith, b.layer, c.requires.0.room, c.lay_marks-in-loop-t.ensures.long, c.fill_layer.ensures.layer.long, c.loop-t.invariant.long, c.lay_arrival.ensures.layer.long, c.lay_marks.ensures.long), omega (arith, c.fill_layer.ensures.wide, c.loop-t.invariant.wide), half_turned c.loop-t.from c.loop-t.invariant.half); copied = c.fill_layer.ensures.copied }
+rest_end-requires c = let b = pass_bounds c.args.grid c.args.trip c.args.last c.args.layers.now c.requires.0 (c.loop-t.t - 1) (omega (arith, c.loop-t.invariant.within)) in record { sizes_fit = (c.requires.0.inside, b.small, omega (arith, c.loop-t-test.true, c.loop-t.invariant.within, c.requires.0.within, c.requires.0.late), omega (arith, b.layer, c.requires.0.room, c.lay_marks-in-loop-t.ensures.long, c.fill_layer.ensures.layer.long, c.loop-t.invariant.long, c.lay_arrival.ensures.layer.long, c.lay_marks.ensures.long), omega (arith, c.fill_layer.ensures.wide, c.loop-t.invariant.wide), half_turned c.loop-t.from c.loop-t.invariant.half); copied = c.fill_layer.ensures.copied }
 
 pub loop-t-smaller : goal.loop-t-smaller
 loop-t-smaller c = omega arith

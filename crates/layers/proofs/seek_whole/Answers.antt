@@ -12,7 +12,7 @@ seek_by-requires c =
     let pre = c.requires in
     let mark = c.mark_all-bearing in
     let bars = bound_by a.bound.capacity a.columns.now a.bound.node a.bound.carrier a.bound.bar in
-    (fillable a.grid a.trip a.trip.horizon a.layers.now mark.new.layers pre.layered.0 mark.ensures.0.kept.long (omega arith) pre.start_bound.1, no_crossing a.grid.width a.grid.height bars a.trip.horizon mark.result.crossing mark.new.layers (bearing_crosses a.trip.horizon bars mark.result mark.ensures.1) mark.ensures.0.marked, pre.start_bound.0)
+    (fillable a.grid a.trip a.trip.horizon a.layers.now mark.new.layers pre.layers_and_records.0 mark.ensures.0.kept.long (omega arith) pre.ends_inside.1, no_crossing a.grid.width a.grid.height bars a.trip.horizon mark.result.crossing mark.new.layers (bearing_crosses a.trip.horizon bars mark.result mark.ensures.1) mark.ensures.0.marked, pre.ends_inside.0)
 
 pub returns : goal.returns
 returns c =
