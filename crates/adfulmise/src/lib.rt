@@ -52,8 +52,7 @@ fn tell_answer(answer: Answer, told: &mut [usize]) -> usize
 }
 
 // The planner; `told` becomes number, sum, records, carrier, other, table and needed.
-#[unsafe(no_mangle)]
-pub extern "C" fn adfulmise_plan(
+pub fn adfulmise_plan(
     hall: &[u8],
     width: usize,
     height: usize,
@@ -108,8 +107,7 @@ fn tell_meetings(verdict: MeetingVerdict, told: &mut [usize]) -> usize
 }
 
 // The route check; `told` becomes number, carrier, other, step, distance, 1 for a swap, and needed.
-#[unsafe(no_mangle)]
-pub extern "C" fn adfulmise_check_routes(
+pub fn adfulmise_check_routes(
     hall: &[u8],
     width: usize,
     height: usize,
@@ -125,8 +123,7 @@ pub extern "C" fn adfulmise_check_routes(
 }
 
 // The meeting check, in the same way.
-#[unsafe(no_mangle)]
-pub extern "C" fn adfulmise_check_meetings(
+pub fn adfulmise_check_meetings(
     hall: &[u8],
     width: usize,
     height: usize,
@@ -167,8 +164,7 @@ fn body_offset(book: &[u8], kind: u8) -> usize
 }
 
 // The book reader: `place` becomes the offset and the length in the book of the body of that kind, 0 and 0 with a refusal.
-#[unsafe(no_mangle)]
-pub extern "C" fn adfulmise_read(book: &[u8], kind: u8, place: &mut [usize]) -> usize
+pub fn adfulmise_read(book: &[u8], kind: u8, place: &mut [usize]) -> usize
     ensures { Read book.now kind place.old result place.new }
 {
     let verdict = book::judge_asked(book, kind);

@@ -1,5 +1,5 @@
-// The best route of a carrier as a C function, for the benchmark: its arguments are looked at here, so that any may be handed in. Crate
-// route_bench_c exports it.
+// The best route of a carrier, for the benchmark: its arguments are looked at here, so that any may be handed in. Crate route_bench_c
+// exports it to C.
 #![tactic(auto)]
 
 ghost use Rattle.std.specs.Prelude.{◌*◌, ◌≤◌, ◌<◌, length};
@@ -153,8 +153,7 @@ fn best_route(
 }
 
 // The same for any arguments: 254 where they are not right.
-#[unsafe(no_mangle)]
-pub extern "C" fn adfulmise_best_route(
+pub fn adfulmise_best_route(
     hall: &[u8],
     width: usize,
     height: usize,

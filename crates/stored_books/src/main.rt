@@ -3,11 +3,10 @@
 // are followed by an empty line. The comparison stops at the first book whose lines differ.
 #![tactic(auto)]
 
-ghost use Rattle.std.specs.Prelude.{◌≤◌, ◌<◌, IfOk, length};
+ghost use Rattle.std.specs.Prelude.{◌≤◌, ◌<◌};
 
 use std::fs::File;
 use std::io;
-use std::io::Read;
 
 const CAPACITY: usize = 128;
 
@@ -146,26 +145,11 @@ fn compare_all(books: &[u8], expected: &[u8]) -> Walk {
     walk
 }
 
-// Reads until the buffer is full or the file ends, and returns how many bytes it put at the start of the buffer.
-fn read_full(file: &mut impl Read, buffer: &mut [u8]) -> io::Result<usize>
-    ensures { IfOk result (λ size. size ≤ length buffer.new) }
-{
-    let mut size = 0;
-    while size < buffer.len() {
-        let count = file.read(&mut buffer[size..])?;
-        if count == 0 {
-            break;
-        }
-        size += count;
-    }
-    Ok(size)
-}
-
 fn main(rt: HostRuntime) -> io::Result<()> {
     let mut books = [0u8; 65536];
-    let books_size = read_full(&mut File::open(&rt, "books")?, &mut books)?;
+    let books_size = reading::read_full(&mut File::open(&rt, "books")?, &mut books)?;
     let mut expected = [0u8; 65536];
-    let expected_size = read_full(&mut File::open(&rt, "expected")?, &mut expected)?;
+    let expected_size = reading::read_full(&mut File::open(&rt, "expected")?, &mut expected)?;
     let walk = compare_all(&books[..books_size], &expected[..expected_size]);
     let compared = walk.compared;
     let differ = walk.differ;
