@@ -1,4 +1,2 @@
-pub mod LentLaws
-pub mod Reading
 pub mod Settled
 pub mod Wrong

@@ -2,52 +2,66 @@
 // Crate adfulmise_c exports them, and `include/adfulmise.h` says the same for C. No function asks anything of its caller.
 #![tactic(auto)]
 
-ghost use Rattle.std.specs.Prelude.{◌≡◌};
+ghost use Rattle.std.specs.Prelude.{◌≡◌, length};
 ghost use Rattle.job.specs.Team.{job_of};
 ghost use Rattle.carriers.specs.Lent.{records_team};
 ghost use Rattle.routes.specs.Check.{route_verdict, route_told};
 ghost use Rattle.clashes.specs.Check.{meeting_verdict, meeting_told};
-ghost use Rattle.book.specs.Book.{asked_verdict, entry_offset};
+ghost use Rattle.book.specs.Book.{body_of, body_place};
 ghost use Rattle.planner.specs.Answer.{answer_told};
 ghost use Rattle.adfulmise.specs.Lent.{written, told_values, fault_values, place_values};
 ghost use Rattle.adfulmise.specs.Post.{Answered, Checked, Read};
 
-use book::BookVerdict;
 use carriers::Carrier;
-use clashes::MeetingVerdict;
 use job::{Fault, Told};
-use planner::Answer;
-use routes::RouteVerdict;
+use planner::{Denial, Plan};
 
-// How many numbers each function tells.
-const TOLD_LENGTH: usize = 7;
-
-const FAULT_LENGTH: usize = 7;
-
-const PLACE_LENGTH: usize = 2;
-
-// The planner's numbers, where there is room for all of them.
-fn write_told(values: Told, told: &mut [usize])
-    ensures { told.new ≡ written (told_values values) told.old }
+// The numbers that the planner tells, in the order that the header has for C; so those of a check below.
+fn told_values(told: Told) -> [usize; 7]
+    ensures { result ≡ told_values told }
 {
-    if told.len() < TOLD_LENGTH {
-        return;
+    [
+        told.number,
+        told.sum,
+        told.records,
+        told.carrier,
+        told.other,
+        told.table,
+        told.needed,
+    ]
+}
+
+// The numbers that a check tells.
+fn fault_values(fault: Fault) -> [usize; 7]
+    ensures { result ≡ fault_values fault }
+{
+    [
+        fault.number,
+        fault.carrier,
+        fault.other,
+        fault.step,
+        fault.distance,
+        fault.swap,
+        fault.needed,
+    ]
+}
+
+// The values at the start of the lent list, where there is room for all of them.
+#[tactic(auto, unfolding(crate::specs::Lent::written))]
+fn write<const N: usize>(values: [usize; N], list: &mut [usize])
+    ensures { list.new ≡ written values.entry list.old }
+{
+    if let Some(front) = list.first_chunk_mut() {
+        *front = values;
     }
-    told[0] = values.number;
-    told[1] = values.sum;
-    told[2] = values.records;
-    told[3] = values.carrier;
-    told[4] = values.other;
-    told[5] = values.table;
-    told[6] = values.needed;
 }
 
 // What an answer tells, and its number.
-fn tell_answer(answer: Answer, told: &mut [usize]) -> usize
+fn tell_answer(answer: Result<Plan, Denial>, told: &mut [usize]) -> usize
     ensures { (result ≡ (answer_told answer).number) × (told.new ≡ written (told_values (answer_told answer)) told.old) }
 {
     let values = told::answer_told(answer);
-    write_told(values, told);
+    write(told_values(values), told);
     values.number
 }
 
@@ -73,36 +87,11 @@ pub fn adfulmise_plan(
     tell_answer(answer, told)
 }
 
-// A check's numbers, in the same way.
-fn write_fault(fault: Fault, told: &mut [usize])
-    ensures { told.new ≡ written (fault_values fault) told.old }
+// What a check found, and its number.
+fn tell_fault(fault: Fault, told: &mut [usize]) -> usize
+    ensures { Checked fault told.old result told.new }
 {
-    if told.len() < FAULT_LENGTH {
-        return;
-    }
-    told[0] = fault.number;
-    told[1] = fault.carrier;
-    told[2] = fault.other;
-    told[3] = fault.step;
-    told[4] = fault.distance;
-    told[5] = fault.swap;
-    told[6] = fault.needed;
-}
-
-// What a verdict tells, and its number.
-fn tell_routes(verdict: RouteVerdict, told: &mut [usize]) -> usize
-    ensures { Checked (route_told verdict) told.old result told.new }
-{
-    let fault = told::route_told(verdict);
-    write_fault(fault, told);
-    fault.number
-}
-
-fn tell_meetings(verdict: MeetingVerdict, told: &mut [usize]) -> usize
-    ensures { Checked (meeting_told verdict) told.old result told.new }
-{
-    let fault = told::meeting_told(verdict);
-    write_fault(fault, told);
+    write(fault_values(fault), told);
     fault.number
 }
 
@@ -119,7 +108,7 @@ pub fn adfulmise_check_routes(
     ensures { Checked (route_told (route_verdict (job_of width height hall.now (records_team carriers.now) h) plan.now)) told.old result told.new }
 {
     let verdict = entry::check_routes(hall, width, height, carriers, h, plan);
-    tell_routes(verdict, told)
+    tell_fault(told::route_told(verdict), told)
 }
 
 // The meeting check, in the same way.
@@ -135,45 +124,24 @@ pub fn adfulmise_check_meetings(
     ensures { Checked (meeting_told (meeting_verdict (job_of width height hall.now (records_team carriers.now) h) plan.now)) told.old result told.new }
 {
     let verdict = entry::check_meetings(hall, width, height, carriers, h, plan);
-    tell_meetings(verdict, told)
+    tell_fault(told::meeting_told(verdict), told)
 }
 
-fn write_place(offset: usize, size: usize, place: &mut [usize])
-    ensures { place.new ≡ written (place_values offset size) place.old }
+// Where in the book the body of a kind begins, and how long it is; 0 and 0 with a refusal.
+#[tactic(auto, using(book::proofs::Lengths::asked_length, book::proofs::Verdicts::asked_good, book::proofs::Places::good_place, book::proofs::Places::refused_place, book::proofs::Verdicts::refused_empty))]
+fn body_place(book: &[u8], kind: u8) -> [usize; 2]
+    ensures { result ≡ place_values (body_place book.now kind) (length (body_of book.now kind)) }
 {
-    if place.len() < PLACE_LENGTH {
-        return;
+    match book::parse_entry(book, kind) {
+        Ok(entry) => [entry.start(), usize::from(entry.length)],
+        Err(_) => [0, 0],
     }
-    place[0] = offset;
-    place[1] = size;
-}
-
-// 'Bodies follow without gaps from byte 16 to the end': where the body of a kind begins.
-fn body_offset(book: &[u8], kind: u8) -> usize
-    requires { asked_verdict book.now kind ≡ BookVerdict.Good }
-    ensures { result ≡ entry_offset book.now kind }
-{
-    if kind == book::HALL {
-        return book::CONTENTS_LENGTH;
-    }
-    let carriers = book::CONTENTS_LENGTH + book::body(book, book::HALL).len();
-    if kind == book::CARRIERS {
-        return carriers;
-    }
-    carriers + book::body(book, book::CARRIERS).len()
 }
 
 // The book reader: `place` becomes the offset and the length in the book of the body of that kind, 0 and 0 with a refusal.
 pub fn adfulmise_read(book: &[u8], kind: u8, place: &mut [usize]) -> usize
     ensures { Read book.now kind place.old result place.new }
 {
-    let verdict = book::judge_asked(book, kind);
-    if let BookVerdict::Good = verdict {
-        let offset = body_offset(book, kind);
-        let body = book::body(book, kind);
-        write_place(offset, body.len(), place);
-        return 0;
-    }
-    write_place(0, 0, place);
-    book::book_number(verdict)
+    write(body_place(book, kind), place);
+    book::book_number(book::judge_asked(book, kind))
 }

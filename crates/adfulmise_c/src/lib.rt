@@ -1,5 +1,6 @@
 // The library for C and Rust, libadfulmise.a: the functions of crate adfulmise, each exported under its own name with the clauses that
 // it has there. `include/adfulmise.h` says the same for C. No function asks anything of its caller.
+// A crate of its own: the kit builds a crate as a library or as a static library, and Rattle code stands on `adfulmise`.
 #![tactic(auto)]
 
 ghost use Rattle.job.specs.Team.{job_of};

@@ -10,7 +10,7 @@ use borrow.Author.Tests.{eqb-true, eq-eqb}
 use lib.Dec.{eqb}
 use lib.ListN.{length, take, drop, length-drop, take-append-drop}
 use lib.Seq.{length-take-le, take_all, drop-drop}
-use Rattle.book.specs.declared.BookVerdict.TheVariants.{Good}
+use Rattle.std.specs.Prelude.{Ok}
 use Rattle.book.specs.Book.{entry_offset, entry_length, body_end, entry_body, Consecutive, wrong_bodies, book_verdict, asked_verdict, body_of}
 use Rattle.book.proofs.Verdicts.{good_passed, asked_good, asked_three, good_body}
 
@@ -40,7 +40,7 @@ consecutive_passed book s =
     simp
     (eq-eqb (entry_offset book 1) 16 s.first, eq-eqb (entry_offset book 2) (body_end book 1) s.second, eq-eqb (entry_offset book 3) (body_end book 2) s.third, eq-eqb (body_end book 3) (length book) s.last)
 
-pub good_consecutive : (book : List ℕ) → book_verdict book ≡ Good → Consecutive book
+pub good_consecutive : (book : List ℕ) → book_verdict book ≡ Ok tt → Consecutive book
 good_consecutive book e = passed_consecutive book (good_passed book e).2
 
 -- ---- where the bodies stand
@@ -79,22 +79,22 @@ module _ (book : List ℕ) (s : Consecutive book) where
 -- ---- the bodies of a good book
 
 -- 'from byte 16 to the end': the three lengths are what the contents leave
-lengths_sum : (book : List ℕ) → book_verdict book ≡ Good → entry_length book 1 + entry_length book 2 + entry_length book 3 ≡ length book - 16
+lengths_sum : (book : List ℕ) → book_verdict book ≡ Ok tt → entry_length book 1 + entry_length book 2 + entry_length book 3 ≡ length book - 16
 lengths_sum book e = let s = good_consecutive book e in omega arith
 
 -- the body asked for lies inside the book, and its part is what is handed back
-pub asked_inside : (book : List ℕ) (kind : ℕ) → asked_verdict book kind ≡ Good → body_end book kind ≤ length book
+pub asked_inside : (book : List ℕ) (kind : ℕ) → asked_verdict book kind ≡ Ok tt → body_end book kind ≤ length book
 asked_inside book kind e =
     let g = asked_good book kind e in
     body_inside book (good_consecutive book g.0) kind g.1 g.2
 
-pub body_handed : (book : List ℕ) (kind o e : ℕ) → asked_verdict book kind ≡ Good → o ≡ entry_offset book kind → e ≡ body_end book kind
+pub body_handed : (book : List ℕ) (kind o e : ℕ) → asked_verdict book kind ≡ Ok tt → o ≡ entry_offset book kind → e ≡ body_end book kind
     → take (e - o) (drop o book) ≡ body_of book kind
 unfolding entry_body
 body_handed book kind o e g p q =
     part_at book o (entry_offset book kind) (e - o) (entry_length book kind) p (omega arith) ∙ sym (good_body book kind g)
 
-module _ (book : List ℕ) (e : book_verdict book ≡ Good) where
+module _ (book : List ℕ) (e : book_verdict book ≡ Ok tt) where
   body_hall : body_of book 1 ≡ take (entry_length book 1) (drop 16 book)
   unfolding entry_body
   body_hall =

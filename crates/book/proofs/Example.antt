@@ -3,8 +3,8 @@
 use Prim.Native.Nat.{ℕ}
 use mathlib.Core.Path.{◌≡◌, refl}
 use mathlib.Core.List.{List, [], ◌∷◌}
+use Rattle.std.specs.Prelude.{Ok}
 use Rattle.lists.specs.Lists.{refuse_if}
-use Rattle.book.specs.declared.BookVerdict.TheVariants.{Good}
 use Rattle.book.specs.Book.{low_high, entry_kind, entry_offset, entry_length, entry_body, no_contents, wrong_kinds, wrong_bodies, wrong_lengths, book_verdict, no_kind, if_good, asked_verdict, body_of, body_place}
 use Rattle.book.specs.Parts.{width_in, height_in, hall_in, count_in, start_in, goal_in, slip_in, horizon_in}
 
@@ -20,7 +20,7 @@ printed_book =
     ∷ 3 ∷ 5 ∷ 0 ∷ 1 ∷ 7 ∷ 0
     ∷ 4 ∷ []
 
-pub printed_good : book_verdict printed_book ≡ Good
+pub printed_good : book_verdict printed_book ≡ Ok tt
 unfolding book_verdict refuse_if no_contents wrong_kinds wrong_bodies wrong_lengths entry_kind entry_offset entry_length entry_body low_high
 printed_good = refl
 

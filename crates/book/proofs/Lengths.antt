@@ -9,8 +9,8 @@ use mathlib.Core.List.{List}
 use borrow.Author.Tests.{ltb-false, eqb-true, not-false}
 use lib.Dec.{eqb}
 use lib.ListN.{length, length-drop}
+use Rattle.std.specs.Prelude.{Ok}
 use Rattle.lists.proofs.Tests.{or_fails}
-use Rattle.book.specs.declared.BookVerdict.TheVariants.{Good}
 use Rattle.book.specs.Book.{entry_length, entry_body, hall_under_two, carriers_not_threes, limits_not_one, wrong_lengths, book_verdict, body_of}
 use Rattle.book.specs.Parts.{hall_in, count_in}
 use Rattle.book.proofs.Verdicts.{good_passed, asked_three, good_body}
@@ -24,7 +24,7 @@ lengths_passed book e =
     let k = or_fails (hall_under_two (entry_body book 1)) (carriers_not_threes (entry_body book 2)) h.0 in
     (k.0, k.1, h.1)
 
-module _ (book : List ℕ) (e : book_verdict book ≡ Good) where
+module _ (book : List ℕ) (e : book_verdict book ≡ Ok tt) where
   -- a body is as long as its entry says
   pub asked_length : (n : ℕ) → 1 ≤ n → n ≤ 3 → length (body_of book n) ≡ entry_length book n
   asked_length n l h = ap length (good_body book n (asked_three book n e l h)) ∙ body_length book (good_consecutive book e) n l h

@@ -1,39 +1,27 @@
 -- Where the part handed back lies: at the entry's offset, or with a refusal at the book's first byte, and the book's bytes from
 -- there on are the body, so the two promises of a part agree. By cases on the answer. Assumes nothing.
-use Prim.Native.Nat.{ℕ, ◌+◌}
-use native.Mathlib.Omega.{arith}
+use Prim.Native.Nat.{ℕ}
 use mathlib.Core.Path.{◌≡◌, refl, ap}
 use mathlib.Core.List.{List, []}
-use denote.Ref.{Bor}
 use lib.ListN.{length, take, drop}
-use Rattle.book.specs.declared.BookVerdict.{BookVerdict}
-use Rattle.book.specs.declared.BookVerdict.TheVariants.{Good, NoContents, WrongKinds, WrongBodies, WrongLengths, NoKind}
-use Rattle.book.specs.Book.{if_good, asked_verdict, entry_offset, entry_body, body_of, body_place}
+use Rattle.std.specs.Prelude.{Ok, Err}
+use Rattle.book.specs.Book.{BookVerdict, if_good, asked_verdict, entry_offset, entry_body, body_of, body_place}
 use Rattle.book.proofs.Verdicts.{if_refused, asked_good}
 use Rattle.book.proofs.Bodies.{good_consecutive, body_length}
 
-pub good_place : (book : List ℕ) (kind : ℕ) → asked_verdict book kind ≡ Good → body_place book kind ≡ entry_offset book kind
+pub good_place : (book : List ℕ) (kind : ℕ) → asked_verdict book kind ≡ Ok tt → body_place book kind ≡ entry_offset book kind
 unfolding body_place if_good
 good_place book kind e = rw e
 
-pub refused_place : (book : List ℕ) (kind : ℕ) → (asked_verdict book kind ≡ Good → ⊥) → body_place book kind ≡ 0
+pub refused_place : (book : List ℕ) (kind : ℕ) → (asked_verdict book kind ≡ Ok tt → ⊥) → body_place book kind ≡ 0
 unfolding body_place
 refused_place book kind n = if_refused (asked_verdict book kind) (entry_offset book kind) 0 n
 
--- a part cut at o begins o bytes after the lent book's first
-pub begins_at : (book : Bor (List ℕ)) (kind o : ℕ) → o ≡ body_place book.now kind
-    → ◌≡◌ {A = ℕ × ℕ} (book.ref_ptr.0, o + book.ref_ptr.1) (book.ref_ptr.0, book.ref_ptr.1 + body_place book.now kind)
-begins_at book kind o p = ap (λ (at : ℕ). (book.ref_ptr.0, at)) (omega arith)
-
-cut_there : (book : List ℕ) (v : BookVerdict) (o : ℕ) (body : List ℕ) → (v ≡ Good → take (length body) (drop o book) ≡ body)
+cut_there : (book : List ℕ) (v : BookVerdict) (o : ℕ) (body : List ℕ) → (v ≡ Ok tt → take (length body) (drop o book) ≡ body)
     → take (length (if_good v body [])) (drop (if_good v o 0) book) ≡ if_good v body []
 unfolding if_good
-cut_there book Good o body e = e refl
-cut_there book NoContents o body e = refl
-cut_there book WrongKinds o body e = refl
-cut_there book WrongBodies o body e = refl
-cut_there book WrongLengths o body e = refl
-cut_there book NoKind o body e = refl
+cut_there book (Ok tt) o body e = e refl
+cut_there book (Err r) o body e = refl
 
 pub part_of_book : (book : List ℕ) (kind : ℕ) → take (length (body_of book kind)) (drop (body_place book kind) book) ≡ body_of book kind
 unfolding body_of body_place entry_body

@@ -4,8 +4,7 @@ use Prim.Native.Nat.{ℕ}
 use mathlib.Core.Path.{◌≡◌, sym, ◌∙◌}
 use mathlib.Core.List.{List}
 use denote.Ref.{Bor}
-use Rattle.book.specs.declared.BookVerdict.{BookVerdict}
-use Rattle.book.specs.Book.{book_number, book_verdict, asked_verdict}
+use Rattle.book.specs.Book.{BookVerdict, book_number, book_verdict, asked_verdict}
 use Rattle.book.specs.Handed.{Handed}
 
 pub book_number_settled : (verdict : BookVerdict) (r s : ℕ) → r ≡ book_number verdict → s ≡ book_number verdict → r ≡ s

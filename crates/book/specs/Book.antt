@@ -1,19 +1,25 @@
 -- Document 01, 'The book of a job': what stands where in a book, the reader's answers 11 to 15, and the body handed back.
 -- The bytes of a book are a list of numbers; a byte past its end reads as 0, and every answer above 11 is only reached
 -- where the whole contents are there.
-use Rattle.std.specs.Prelude.{ℕ, ◌+◌, ◌-◌, ◌*◌, ◌%◌, Bool, not, ◌||◌, List, [], ◌≡◌, eqb, ltb, length, get_or, take, drop}
+use Rattle.std.specs.Prelude.{ℕ, ◌+◌, ◌-◌, ◌*◌, ◌%◌, Bool, not, ◌||◌, List, [], ◌≡◌, eqb, ltb, length, get_or, take, drop, Result, Ok, Err}
 use Rattle.lists.specs.Lists.{refuse_if}
-use Rattle.book.specs.declared.BookVerdict.{BookVerdict}
-use Rattle.book.specs.declared.BookVerdict.TheVariants.{Good, NoContents, WrongKinds, WrongBodies, WrongLengths, NoKind}
+use Rattle.book.specs.declared.BookRefusal.{BookRefusal}
+use Rattle.book.specs.declared.BookRefusal.TheVariants.{NoContents, WrongKinds, WrongBodies, WrongLengths, NoKind}
+use Rattle.book.specs.declared.Contents.{Contents}
+use Rattle.book.specs.declared.Entry.{Entry}
+
+-- what the reader says: that it refuses nothing, or what it refuses
+abbrev pub BookVerdict : Type 0
+BookVerdict = Result (Unit {0}) BookRefusal
 
 -- the number of each answer; 0 where the reader refuses nothing
 abbrev pub book_number : BookVerdict → ℕ
-book_number Good = 0
-book_number NoContents = 11
-book_number WrongKinds = 12
-book_number WrongBodies = 13
-book_number WrongLengths = 14
-book_number NoKind = 15
+book_number (Ok _) = 0
+book_number (Err NoContents) = 11
+book_number (Err WrongKinds) = 12
+book_number (Err WrongBodies) = 13
+book_number (Err WrongLengths) = 14
+book_number (Err NoKind) = 15
 
 -- ---- the contents
 
@@ -56,6 +62,13 @@ entry_length book n = low_high book (entry_at n + 3)
 -- where the body of entry n ends
 abbrev pub body_end : List ℕ → ℕ → ℕ
 body_end book n = entry_offset book n + entry_length book n
+
+-- entry n as the reader holds it, and the three together
+abbrev pub entry_in : List ℕ → ℕ → Entry
+entry_in book n = record { kind = entry_kind book n; offset = entry_offset book n; length = entry_length book n }
+
+abbrev pub contents_in : List ℕ → Contents
+contents_in book = record { hall = entry_in book 1; carriers = entry_in book 2; limits = entry_in book 3 }
 
 -- the bytes that entry n names
 unfoldable pub entry_body : List ℕ → ℕ → List ℕ
@@ -104,10 +117,10 @@ wrong_lengths book = hall_under_two (entry_body book 1) || carriers_not_threes (
 -- 'Reader answers, lowest first': 11 to 14
 unfoldable pub book_verdict : List ℕ → BookVerdict
 book_verdict book =
-    refuse_if (no_contents book) NoContents
-    (refuse_if (wrong_kinds book) WrongKinds
-    (refuse_if (wrong_bodies book) WrongBodies
-    (refuse_if (wrong_lengths book) WrongLengths Good)))
+    refuse_if (no_contents book) (Err NoContents)
+    (refuse_if (wrong_kinds book) (Err WrongKinds)
+    (refuse_if (wrong_bodies book) (Err WrongBodies)
+    (refuse_if (wrong_lengths book) (Err WrongLengths) (Ok tt))))
 
 -- 15: 'a kind other than 1 to 3'
 unfoldable pub no_kind : ℕ → Bool
@@ -115,16 +128,12 @@ no_kind kind = ltb kind hall_kind || ltb limits_kind kind
 
 -- what comes where nothing is refused, and what with a refusal
 unfoldable pub if_good : {A : Type 0} → BookVerdict → A → A → A
-if_good Good go stop = go
-if_good NoContents go stop = stop
-if_good WrongKinds go stop = stop
-if_good WrongBodies go stop = stop
-if_good WrongLengths go stop = stop
-if_good NoKind go stop = stop
+if_good (Ok _) go stop = go
+if_good (Err _) go stop = stop
 
 -- 'a kind other than 1 to 3 is answer 15, after 11 to 14'
 unfoldable pub asked_verdict : List ℕ → ℕ → BookVerdict
-asked_verdict book kind = if_good (book_verdict book) (refuse_if (no_kind kind) NoKind Good) (book_verdict book)
+asked_verdict book kind = if_good (book_verdict book) (refuse_if (no_kind kind) (Err NoKind) (Ok tt)) (book_verdict book)
 
 -- 'Asked for one kind, the reader hands back that body as a part of the lent book'; 'with any refusal the part handed back is empty'
 unfoldable pub body_of : List ℕ → ℕ → List ℕ

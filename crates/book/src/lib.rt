@@ -2,15 +2,13 @@
 // the lent book. Nothing here writes.
 #![tactic(auto)]
 
-ghost use Rattle.std.specs.Prelude.{◌≡◌, false, ◌+◌, ◌<◌, ◌≤◌, length};
-ghost use Rattle.lists.specs.Lists.{refuse_if};
-ghost use Rattle.book.specs.Book.{book_number, entry_at, low_high, entry_kind, entry_offset, entry_length, body_end, wrong_kinds, wrong_bodies, hall_under_two, carriers_not_threes, limits_not_one, wrong_lengths, no_kind, book_verdict, asked_verdict};
+ghost use Rattle.std.specs.Prelude.{◌≡◌, true, false, ◌+◌, ◌<◌, ◌≤◌, length, List, ℕ, MatchResult};
+ghost use Rattle.book.specs.Book.{book_number, entry_in, contents_in, low_high, wrong_kinds, wrong_bodies, hall_under_two, carriers_not_threes, limits_not_one, wrong_lengths, book_verdict, no_kind, asked_verdict};
 ghost use Rattle.book.specs.Handed.{Handed};
 
-// What the reader says, the lowest number first.
-#[derive(Clone, Copy)]
-pub enum BookVerdict {
-    Good,
+// What the reader refuses, the lowest number first.
+#[derive(Clone, Copy, PartialEq, Eq)]
+pub enum BookRefusal {
     NoContents,
     WrongKinds,
     WrongBodies,
@@ -19,18 +17,14 @@ pub enum BookVerdict {
 }
 
 // 'Contents first, then bodies. Byte 0 is 3. Three entries of 5 bytes follow'
-pub const CONTENTS_LENGTH: usize = 16;
+const CONTENTS_LENGTH: usize = 16;
 
 const ENTRY_COUNT: u8 = 3;
 
 const ENTRY_LENGTH: usize = 5;
 
-// 'kind, offset, length': where the last two stand in an entry
-const OFFSET_AT: usize = 1;
-
-const LENGTH_AT: usize = 3;
-
-// 'Kinds are 1, 2, 3 in that order.'
+// 'Kinds are 1, 2, 3 in that order.' Bytes and not an enum: a book, and a caller in C, may name any byte, and one that is no kind is
+// answered 12 or 15.
 pub const HALL: u8 = 1;
 
 pub const CARRIERS: u8 = 2;
@@ -44,95 +38,64 @@ const CARRIER_LENGTH: usize = 3;
 
 const LIMITS_LENGTH: usize = 1;
 
-// The number of each answer.
-pub fn book_number(verdict: BookVerdict) -> usize
+// The number of each answer; 0 where nothing is refused. Promised by this name, so a function and no From.
+pub fn book_number(verdict: Result<(), BookRefusal>) -> usize
     ensures { result ≡ book_number verdict }
 {
     match verdict {
-        BookVerdict::Good => 0,
-        BookVerdict::NoContents => 11,
-        BookVerdict::WrongKinds => 12,
-        BookVerdict::WrongBodies => 13,
-        BookVerdict::WrongLengths => 14,
-        BookVerdict::NoKind => 15,
+        Ok(()) => 0,
+        Err(BookRefusal::NoContents) => 11,
+        Err(BookRefusal::WrongKinds) => 12,
+        Err(BookRefusal::WrongBodies) => 13,
+        Err(BookRefusal::WrongLengths) => 14,
+        Err(BookRefusal::NoKind) => 15,
     }
 }
 
 // '16-bit, low byte first'
-fn low_high(book: &[u8], at: usize) -> usize
+#[tactic(auto, unfolding(crate::specs::Book::low_high))]
+fn low_high(book: &[u8], at: usize) -> u16
     requires { at + 1 < length book.now }
-    ensures { (result ≡ low_high book.now at) × (result < 65536) }
+    ensures { result ≡ low_high book.now at }
 {
-    let low = book[at] as usize;
-    let high = book[at + 1] as usize;
-    low + 256 * high
+    u16::from_le_bytes([book[at], book[at + 1]])
 }
 
-// Where entry n begins, n from 1 to 3.
-fn entry_at(n: usize) -> usize
-    requires { (1 ≤ n) × (n ≤ 3) }
-    ensures { (result ≡ entry_at n) × (result ≤ 11) }
-{
-    1 + ENTRY_LENGTH * (n - 1)
+// 'kind, offset, length, the last two 16-bit'
+#[derive(Clone, Copy)]
+pub struct Entry {
+    pub kind: u8,
+    pub offset: u16,
+    pub length: u16,
 }
 
-fn entry_kind(book: &[u8], n: usize) -> u8
-    requires { (16 ≤ length book.now) × (1 ≤ n) × (n ≤ 3) }
-    ensures { result ≡ entry_kind book.now n }
-{
-    book[entry_at(n)]
-}
-
-fn entry_offset(book: &[u8], n: usize) -> usize
-    requires { (16 ≤ length book.now) × (1 ≤ n) × (n ≤ 3) }
-    ensures { (result ≡ entry_offset book.now n) × (result < 65536) }
-{
-    low_high(book, entry_at(n) + OFFSET_AT)
-}
-
-fn entry_length(book: &[u8], n: usize) -> usize
-    requires { (16 ≤ length book.now) × (1 ≤ n) × (n ≤ 3) }
-    ensures { (result ≡ entry_length book.now n) × (result < 65536) }
-{
-    low_high(book, entry_at(n) + LENGTH_AT)
-}
-
-fn body_end(book: &[u8], n: usize) -> usize
-    requires { (16 ≤ length book.now) × (1 ≤ n) × (n ≤ 3) }
-    ensures { result ≡ body_end book.now n }
-{
-    entry_offset(book, n) + entry_length(book, n)
-}
-
-// 12: 'kinds wrong'
-fn wrong_kinds(book: &[u8]) -> bool
-    requires { 16 ≤ length book.now }
-    ensures { result ≡ wrong_kinds book.now }
-{
-    if entry_kind(book, 1) != HALL {
-        return true;
+impl Entry {
+    // Entry n of the contents, n from 1 to 3.
+    #[tactic(auto, unfolding(crate::specs::Book::entry_kind, crate::specs::Book::entry_offset, crate::specs::Book::entry_length))]
+    fn read(book: &[u8], n: usize) -> Entry
+        requires { (16 ≤ length book.now) × (1 ≤ n) × (n ≤ 3) }
+        ensures { result ≡ entry_in book.now n }
+    {
+        let at = 1 + ENTRY_LENGTH * (n - 1);
+        Entry {
+            kind: book[at],
+            offset: low_high(book, at + 1),
+            length: low_high(book, at + 3),
+        }
     }
-    if entry_kind(book, 2) != CARRIERS {
-        return true;
-    }
-    entry_kind(book, 3) != LIMITS
-}
 
-// 13: 'bodies don't follow one another exactly to the end'
-fn wrong_bodies(book: &[u8]) -> bool
-    requires { 16 ≤ length book.now }
-    ensures { result ≡ wrong_bodies book.now }
-{
-    if entry_offset(book, 1) != CONTENTS_LENGTH {
-        return true;
+    // Where its body begins and ends in the book.
+    pub fn start(self) -> usize
+        ensures { result ≡ self.offset }
+    {
+        usize::from(self.offset)
     }
-    if entry_offset(book, 2) != body_end(book, 1) {
-        return true;
+
+    pub fn end(self) -> usize
+        ensures { result ≡ self.offset + self.length }
+    {
+        self.start() + usize::from(self.length)
     }
-    if entry_offset(book, 3) != body_end(book, 2) {
-        return true;
-    }
-    body_end(book, 3) != book.len()
 }
 
 // 14: 'hall body under 2 bytes'; P3: 'The carriers body has 3 bytes for each carrier, the limits body only H', '14 reads the new
@@ -155,81 +118,106 @@ fn limits_body_wrong(body: &[u8]) -> bool
     body.len() != LIMITS_LENGTH
 }
 
-// 'Bodies follow without gaps from byte 16 to the end': each begins where the one before it ends.
-#[tactic(auto, using(crate::proofs::Bodies::passed_consecutive))]
-fn wrong_lengths(book: &[u8]) -> bool
-    requires { (16 ≤ length book.now) × (wrong_bodies book.now ≡ false) }
-    ensures { result ≡ wrong_lengths book.now }
+// The three entries of a book that has them, in their order.
+#[derive(Clone, Copy)]
+struct Contents {
+    hall: Entry,
+    carriers: Entry,
+    limits: Entry,
+}
+
+impl Contents {
+    fn read(book: &[u8]) -> Contents
+        requires { 16 ≤ length book.now }
+        ensures { result ≡ contents_in book.now }
+    {
+        Contents {
+            hall: Entry::read(book, 1),
+            carriers: Entry::read(book, 2),
+            limits: Entry::read(book, 3),
+        }
+    }
+
+    // 12: 'kinds wrong'
+    #[tactic(auto, unfolding(crate::specs::Book::wrong_kinds))]
+    fn wrong_kinds(self) -> bool
+        ensures { (book : List ℕ) → self ≡ contents_in book → result ≡ wrong_kinds book }
+    {
+        self.hall.kind != HALL || self.carriers.kind != CARRIERS || self.limits.kind != LIMITS
+    }
+
+    // 13: 'bodies don't follow one another exactly to the end'
+    #[tactic(auto, unfolding(crate::specs::Book::wrong_bodies))]
+    fn wrong_bodies(self, book: &[u8]) -> bool
+        requires { self ≡ contents_in book.now }
+        ensures { result ≡ wrong_bodies book.now }
+    {
+        self.hall.start() != CONTENTS_LENGTH
+            || self.carriers.start() != self.hall.end()
+            || self.limits.start() != self.carriers.end()
+            || self.limits.end() != book.len()
+    }
+
+    // 'Bodies follow without gaps from byte 16 to the end': each begins where the one before it ends.
+    #[tactic(auto, using(crate::proofs::Bodies::passed_consecutive, crate::proofs::Bodies::hall_part, crate::proofs::Bodies::carriers_part, crate::proofs::Bodies::limits_part), unfolding(crate::specs::Book::wrong_lengths))]
+    fn wrong_lengths(self, book: &[u8]) -> bool
+        requires { (self ≡ contents_in book.now) × (wrong_bodies book.now ≡ false) }
+        ensures { result ≡ wrong_lengths book.now }
+    {
+        hall_body_wrong(&book[self.hall.start()..self.hall.end()])
+            || carriers_body_wrong(&book[self.carriers.start()..self.carriers.end()])
+            || limits_body_wrong(&book[self.limits.start()..])
+    }
+
+    // 15: 'a kind other than 1 to 3'
+    #[tactic(auto, unfolding(crate::specs::Book::no_kind, lists::specs::Lists::refuse_if))]
+    fn entry(self, kind: u8) -> Result<Entry, BookRefusal>
+        ensures { (book : List ℕ) → self ≡ contents_in book → MatchResult result (λ e. (no_kind kind ≡ false) × (e ≡ entry_in book kind)) (λ r. (no_kind kind ≡ true) × (r ≡ BookRefusal.NoKind)) }
+    {
+        match kind {
+            HALL => Ok(self.hall),
+            CARRIERS => Ok(self.carriers),
+            LIMITS => Ok(self.limits),
+            _ => Err(BookRefusal::NoKind),
+        }
+    }
+}
+
+// The contents of a book that the answers 11 to 14 don't refuse.
+#[tactic(auto, unfolding(crate::specs::Book::no_contents, crate::specs::Book::book_verdict, lists::specs::Lists::refuse_if))]
+fn parse_contents(book: &[u8]) -> Result<Contents, BookRefusal>
+    ensures { MatchResult result (λ contents. (book_verdict book.now ≡ Ok tt) × (contents ≡ contents_in book.now)) (λ refusal. book_verdict book.now ≡ Err refusal) }
 {
-    let carriers = body_end(book, 1);
-    let limits = body_end(book, 2);
-    if hall_body_wrong(&book[CONTENTS_LENGTH..carriers]) {
-        return true;
+    if book.len() < CONTENTS_LENGTH || book[0] != ENTRY_COUNT {
+        return Err(BookRefusal::NoContents);
     }
-    if carriers_body_wrong(&book[carriers..limits]) {
-        return true;
+    let contents = Contents::read(book);
+    if contents.wrong_kinds() {
+        return Err(BookRefusal::WrongKinds);
     }
-    limits_body_wrong(&book[limits..])
+    if contents.wrong_bodies(book) {
+        return Err(BookRefusal::WrongBodies);
+    }
+    if contents.wrong_lengths(book) {
+        return Err(BookRefusal::WrongLengths);
+    }
+    Ok(contents)
 }
 
 // The reader's answers 11 to 14.
-pub fn judge_book(book: &[u8]) -> BookVerdict
+pub fn judge_book(book: &[u8]) -> Result<(), BookRefusal>
     ensures { result ≡ book_verdict book.now }
 {
-    if book.len() < CONTENTS_LENGTH {
-        return BookVerdict::NoContents;
-    }
-    if book[0] != ENTRY_COUNT {
-        return BookVerdict::NoContents;
-    }
-    if wrong_kinds(book) {
-        return BookVerdict::WrongKinds;
-    }
-    if wrong_bodies(book) {
-        return BookVerdict::WrongBodies;
-    }
-    if wrong_lengths(book) {
-        return BookVerdict::WrongLengths;
-    }
-    BookVerdict::Good
+    parse_contents(book)?;
+    Ok(())
 }
 
-// 15: 'a kind other than 1 to 3'
-fn judge_kind(kind: u8) -> BookVerdict
-    ensures { result ≡ refuse_if (no_kind kind) BookVerdict.NoKind BookVerdict.Good }
+// The entry of a kind, or answers 11 to 15: 15 comes 'after 11 to 14'.
+#[tactic(auto, unfolding(crate::specs::Book::asked_verdict, crate::specs::Book::if_good, lists::specs::Lists::refuse_if))]
+pub fn parse_entry(book: &[u8], kind: u8) -> Result<Entry, BookRefusal>
+    ensures { MatchResult result (λ entry. (asked_verdict book.now kind ≡ Ok tt) × (entry ≡ entry_in book.now kind)) (λ refusal. asked_verdict book.now kind ≡ Err refusal) }
 {
-    if kind < HALL {
-        return BookVerdict::NoKind;
-    }
-    if LIMITS < kind {
-        return BookVerdict::NoKind;
-    }
-    BookVerdict::Good
-}
-
-// Answers 11 to 15: 15 comes 'after 11 to 14'.
-fn parse_answer(book: &[u8], kind: u8) -> BookVerdict
-    ensures { result ≡ asked_verdict book.now kind }
-{
-    let verdict = judge_book(book);
-    if let BookVerdict::Good = verdict {
-        return judge_kind(kind);
-    }
-    verdict
-}
-
-// The body of a kind as a part of the book; 'with any refusal the part handed back is empty'.
-fn parse_body(book: &[u8], kind: u8) -> &[u8]
-    ensures { Handed book.entry kind result }
-{
-    let verdict = parse_answer(book, kind);
-    if let BookVerdict::Good = verdict {
-        let n = kind as usize;
-        let start = entry_offset(book, n);
-        let end = body_end(book, n);
-        return &book[start..end];
-    }
-    &book[0..0]
+    parse_contents(book)?.entry(kind)
 }
 
 // 'The reader is a small state that refers to the book it was given.'
@@ -238,29 +226,37 @@ pub struct Reader<'a> {
     pub book: &'a [u8],
 }
 
-// What the reader answers, asked for one kind.
-pub fn reader_answer<'a>(reader: Reader<'a>, kind: u8) -> BookVerdict
-    ensures { result ≡ asked_verdict reader.entry.book.now kind }
-{
-    parse_answer(reader.book, kind)
-}
+impl<'a> Reader<'a> {
+    // What the reader answers, asked for one kind.
+    pub fn answer(self, kind: u8) -> Result<(), BookRefusal>
+        ensures { result ≡ asked_verdict self.entry.book.now kind }
+    {
+        parse_entry(self.book, kind)?;
+        Ok(())
+    }
 
-// 'Asked for one kind, the reader hands back that body as a part of the lent book'.
-pub fn reader_body<'a>(reader: Reader<'a>, kind: u8) -> &'a [u8]
-    ensures { Handed reader.entry.book kind result }
-{
-    parse_body(reader.book, kind)
+    // 'Asked for one kind, the reader hands back that body as a part of the lent book'; 'with any refusal the part handed back is
+    // empty'.
+    #[tactic(auto, using(crate::proofs::Bodies::asked_inside, crate::proofs::Bodies::body_handed, crate::proofs::Places::good_place, crate::proofs::Places::refused_place, crate::proofs::Verdicts::refused_empty))]
+    pub fn body(self, kind: u8) -> &'a [u8]
+        ensures { Handed self.entry.book kind result }
+    {
+        match parse_entry(self.book, kind) {
+            Ok(entry) => &self.book[entry.start()..entry.end()],
+            Err(_) => &self.book[..0],
+        }
+    }
 }
 
 // For every caller that has a plain slice: a reader of it is asked.
-pub fn judge_asked(book: &[u8], kind: u8) -> BookVerdict
+pub fn judge_asked(book: &[u8], kind: u8) -> Result<(), BookRefusal>
     ensures { result ≡ asked_verdict book.now kind }
 {
-    reader_answer(Reader { book }, kind)
+    Reader { book }.answer(kind)
 }
 
 pub fn body(book: &[u8], kind: u8) -> &[u8]
     ensures { Handed book.entry kind result }
 {
-    reader_body(Reader { book }, kind)
+    Reader { book }.body(kind)
 }

@@ -1,4 +1,3 @@
 pub mod Forms
 pub mod Padded
-pub mod Thirds
 pub mod Wrong

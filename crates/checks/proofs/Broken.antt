@@ -4,20 +4,18 @@ use Prim.Native.Nat.{ℕ}
 use native.Mathlib.Omega.{arith}
 use mathlib.Core.Path.{◌≡◌, refl, sym, ap, ◌∙◌}
 use mathlib.Core.List.{List, [], ◌∷◌}
+use Rattle.std.specs.Prelude.{Some, None, Ok}
 use Rattle.lists.specs.Lists.{range, greatest, only, keep, any_of, first_of, each, refuse_if}
 use Rattle.hall.specs.Hall.{wrong_side, wrong_grid, wrong_byte, wrong_bytes, is_open}
 use Rattle.hall.specs.Moves.{on_grid, cell_at, landing, reach_from, reach, may_follow}
 use Rattle.job.specs.Job.{Job, wrong_limits, wrong_count, wrong_carrier, first_wrong, share, pairs, first_shared}
 use Rattle.job.specs.Team.{job_of}
 use Rattle.job.specs.Verdict.{carrier_verdict, shared_verdict, judge_with, judge, if_accepted}
-use Rattle.routes.specs.Check.{wrong_move, wrong_arrival, wrong_at, places, first_wrong_place, place_verdict, plan_verdict, route_verdict, route_told}
-use Rattle.routes.specs.declared.RouteVerdict.{RouteVerdict}
-use Rattle.routes.specs.declared.RouteVerdict.TheVariants.{Lawful, Wrong}
+use Rattle.routes.specs.Check.{RouteVerdict, wrong_move, wrong_arrival, wrong_at, places, first_wrong_place, place_verdict, plan_verdict, route_verdict, route_told}
 use Rattle.clashes.specs.Chosen.{written, meets, swaps, happens, over_pairs, at_step, candidates, or_clear, chosen}
-use Rattle.clashes.specs.Check.{plan_clash, compared, meeting_verdict, meeting_told}
+use Rattle.clashes.specs.Check.{MeetingVerdict, plan_clash, compared, meeting_verdict, meeting_told}
 use Rattle.clashes.specs.declared.Clash.TheVariants.{Clear, Meeting}
-use Rattle.clashes.specs.declared.MeetingVerdict.{MeetingVerdict}
-use Rattle.clashes.specs.declared.MeetingVerdict.TheVariants.{Compared}
+use Rattle.checks.specs.Walk.{place_of}
 
 -- width 3, height 1, 0→1 and 1→2 with these slips, H 1
 abbrev pub crossing_of : ℕ → ℕ → Job
@@ -47,11 +45,11 @@ standing = 0 ∷ []
 
 -- ---- the route check
 
-astray_wrong : route_verdict crossing astray ≡ Wrong 0 1
+astray_wrong : route_verdict crossing astray ≡ Ok (Some (place_of 0 1))
 unfolding range only keep any_of first_of each wrong_side wrong_grid wrong_byte wrong_bytes is_open on_grid cell_at landing reach_from reach may_follow wrong_limits wrong_count wrong_carrier first_wrong share pairs first_shared refuse_if carrier_verdict shared_verdict judge_with judge if_accepted wrong_move wrong_arrival wrong_at places first_wrong_place place_verdict plan_verdict route_verdict
 astray_wrong = refl
 
-standing_lawful : route_verdict one_cell standing ≡ Lawful
+standing_lawful : route_verdict one_cell standing ≡ Ok None
 unfolding range any_of first_of each wrong_side wrong_grid wrong_byte wrong_bytes is_open wrong_limits wrong_count wrong_carrier first_wrong share pairs first_shared refuse_if carrier_verdict shared_verdict judge_with judge if_accepted wrong_arrival wrong_at places first_wrong_place place_verdict plan_verdict route_verdict
 standing_lawful = refl
 
@@ -65,11 +63,11 @@ never_passes_routes r e never = never (ap (λ (v : RouteVerdict). (route_told v)
 
 -- ---- the meeting check
 
-followed_meets : meeting_verdict crossing followed ≡ Compared (Meeting 1 0 0 1)
+followed_meets : meeting_verdict crossing followed ≡ Ok (Meeting 1 0 0 1)
 unfolding range any_of first_of each wrong_side wrong_grid wrong_byte wrong_bytes is_open wrong_limits wrong_count wrong_carrier first_wrong share pairs first_shared refuse_if carrier_verdict shared_verdict judge_with judge if_accepted written meets swaps happens over_pairs at_step candidates greatest or_clear chosen plan_clash compared meeting_verdict
 followed_meets = refl
 
-standing_clear : meeting_verdict one_cell standing ≡ Compared Clear
+standing_clear : meeting_verdict one_cell standing ≡ Ok Clear
 unfolding range any_of first_of each wrong_side wrong_grid wrong_byte wrong_bytes is_open wrong_limits wrong_count wrong_carrier first_wrong share pairs first_shared refuse_if carrier_verdict shared_verdict judge_with judge if_accepted written meets swaps happens over_pairs at_step candidates greatest or_clear chosen plan_clash compared meeting_verdict
 standing_clear = refl
 

@@ -7,29 +7,29 @@ use mathlib.Core.Path.{◌≡◌, refl, sym, ap, ap₂, ◌∙◌}
 use mathlib.Core.Logic.{◌↔◌, ◌⊎◌, inl, inr}
 use mathlib.Core.Bool.{Bool, true, false, not, ◌&&◌, ◌||◌}
 use mathlib.Core.List.{List, map, Memᴰ}
-use mathlib.Core.Option.{Option, none, some}
+use mathlib.Core.Option.{Option as First, none, some}
 use borrow.Author.Tests.{le-ltb, ltb-false}
 use lib.Dec.{T, eqb, ltb}
 use lib.ListN.{length, drop, length-take, length-drop}
 use lib.Seq.{get_or-take, get_or-drop}
+use Rattle.std.specs.Prelude.{None, Ok, Err}
 use Rattle.lists.specs.Lists.{range, first_of}
 use Rattle.lists.proofs.Tests.{is_false, of_false}
 use Rattle.lists.proofs.Every.{every_member, member_every}
 use Rattle.lists.proofs.Members.{member_each, each_member, member_map, map_member, member_range, range_member}
 use Rattle.lists.proofs.Passing.{FirstFact, first_fact}
 use Rattle.job.specs.Job.{Job, plan_length, plan_cell}
-use Rattle.job.specs.Verdict.{IsAccepted, judge, if_accepted}
-use Rattle.job.proofs.Refused.{accepts_or_not, zero_accepted, if_accepted_lem, if_refused}
+use Rattle.job.specs.Verdict.{Verdict, IsAccepted, judge, if_accepted, verdict_told}
+use Rattle.job.specs.declared.Refusal.{Refusal}
+use Rattle.job.proofs.Refused.{accepted_or_refused, zero_accepted, if_accepted_lem, if_refused}
+use Rattle.job.specs.declared.CheckRefusal.TheVariants.{Job as OfJob, Short}
 use Rattle.routes.specs.Route.{Lawful, cell_of, route_in}
-use Rattle.routes.specs.Check.{Place, places, wrong_move, wrong_arrival, wrong_at, first_wrong_place, place_verdict, plan_verdict, route_verdict, route_told}
-use Rattle.routes.specs.declared.RouteVerdict.{RouteVerdict}
-use Rattle.routes.specs.declared.RouteVerdict.TheVariants.{Lawful as LawfulPlan, Refused, Short}
+use Rattle.routes.specs.Check.{RouteVerdict, places, wrong_move, wrong_arrival, wrong_at, first_wrong_place, place_verdict, plan_verdict, route_verdict, route_told}
+use Rattle.routes.specs.declared.Place.{Place}
 use Rattle.routes.proofs.Lawful.{right_everywhere_lawful}
-use Rattle.clashes.specs.Check.{plan_travel, plan_clash, compared, meeting_verdict, meeting_told, clash_told}
+use Rattle.clashes.specs.Check.{MeetingVerdict, plan_travel, plan_clash, compared, meeting_verdict, meeting_told, clash_told}
 use Rattle.clashes.specs.declared.Clash.{Clash}
 use Rattle.clashes.specs.declared.Clash.TheVariants.{Clear, Meeting, Swap}
-use Rattle.clashes.specs.declared.MeetingVerdict.{MeetingVerdict}
-use Rattle.clashes.specs.declared.MeetingVerdict.TheVariants.{Compared}
 use Rattle.clashes.proofs.Chosen.{clear_apart, apart_clear}
 use Rattle.clashes.proofs.Holds.{apart_survives, survives_apart}
 use Rattle.checks.specs.Demand.{LawfulRoutes, Passes, Safe}
@@ -99,7 +99,7 @@ module _ (job : Job) (cell : ℕ → ℕ → ℕ) where
       (omega arith, omega arith)
 
   -- what the first wrong place tells, or that there is none
-  abbrev pub WrongFact : Option Place → Type 0
+  abbrev pub WrongFact : First Place → Type 0
   WrongFact = FirstFact wrong (λ p. (p.carrier < job.count) × (p.step ≤ job.horizon)) (places job.count job.horizon)
 
   pub wrong_fact : WrongFact (first_of wrong (places job.count job.horizon))
@@ -107,12 +107,12 @@ module _ (job : Job) (cell : ℕ → ℕ → ℕ) where
       first_fact wrong (λ p. (p.carrier < job.count) × (p.step ≤ job.horizon)) (places job.count job.horizon)
       (member_every (λ p. (p.carrier < job.count) × (p.step ≤ job.horizon)) (places job.count job.horizon) placed)
 
-  says_none : (o : Option Place) → WrongFact o → (route_told (place_verdict o)).number ≡ 0 → NoneWrong job cell
+  says_none : (o : First Place) → WrongFact o → (route_told (place_verdict o)).number ≡ 0 → NoneWrong job cell
   unfolding FirstFact place_verdict NoneWrong
   says_none none fact e = λ i t li lt. is_false (every_member (λ p. T (wrong p) → ⊥) (places job.count job.horizon) fact (listed i t li lt))
   says_none (some p) fact e = absurd (let z : ◌≡◌ {A = ℕ} 21 0 = e in omega arith)
 
-  none_says : (o : Option Place) → WrongFact o → NoneWrong job cell → place_verdict o ≡ LawfulPlan
+  none_says : (o : First Place) → WrongFact o → NoneWrong job cell → place_verdict o ≡ Ok None
   unfolding FirstFact place_verdict NoneWrong
   none_says none fact n = refl
   none_says (some p) fact n = let (li, lt) = fact.1 in absurd (of_false (n p.carrier p.step li lt) fact.0)
@@ -125,12 +125,12 @@ module _ (job : Job) (plan : List ℕ) (accepted : IsAccepted job) (long : plan_
   unfolding route_verdict plan_verdict if_accepted
   route_verdict_lem = rw (accepted, plan_verdict, le-ltb (length plan) (plan_length job) long)
 
-  pub meeting_verdict_lem : meeting_verdict job plan ≡ Compared (plan_clash job plan)
+  pub meeting_verdict_lem : meeting_verdict job plan ≡ Ok (plan_clash job plan)
   unfolding meeting_verdict compared if_accepted
   meeting_verdict_lem = rw (accepted, compared, le-ltb (length plan) (plan_length job) long)
 
   -- the routes are lawful exactly if the route check says 0
-  lawful_says_zero : ((i : ℕ) → i < job.count → Lawful job i (route_in job.horizon plan i)) → route_verdict job plan ≡ LawfulPlan
+  lawful_says_zero : ((i : ℕ) → i < job.count → Lawful job i (route_in job.horizon plan i)) → route_verdict job plan ≡ Ok None
   unfolding first_wrong_place NoneWrong
   lawful_says_zero law =
       route_verdict_lem
@@ -163,11 +163,11 @@ module _ (job : Job) (plan : List ℕ) (accepted : IsAccepted job) (long : plan_
       (clear_apart (plan_travel job plan) job.count
       (clash_clear (plan_clash job plan) (ap (λ (v : MeetingVerdict). (meeting_told v).number) (sym meeting_verdict_lem) ∙ e)))
 
-  safe_says_clear : Safe job plan → meeting_verdict job plan ≡ Compared Clear
+  safe_says_clear : Safe job plan → meeting_verdict job plan ≡ Ok Clear
   unfolding plan_clash
   safe_says_clear s =
       meeting_verdict_lem
-      ∙ ap Compared (apart_clear (plan_travel job plan) job.count (survives_apart (plan_travel job plan) job.count s))
+      ∙ ap Ok (apart_clear (plan_travel job plan) job.count (survives_apart (plan_travel job plan) job.count s))
 
 -- ---- demand 3
 
@@ -183,19 +183,19 @@ plan_check_exact job plan accepted law = (
 -- a 0 of the route check, whatever was given to it, says that the job is accepted and the routes are lawful
 zero_is_accepted : (job : Job) (plan : List ℕ) → (route_told (route_verdict job plan)).number ≡ 0 → IsAccepted job
 unfolding route_verdict
-zero_is_accepted job plan e = go (accepts_or_not (judge job))
+zero_is_accepted job plan e = go (accepted_or_refused (judge job))
   where
-    go : IsAccepted job ⊎ (IsAccepted job → ⊥) → IsAccepted job
+    go : IsAccepted job ⊎ ((r : Refusal) × (judge job ≡ Err r)) → IsAccepted job
     go (inl accepted) = accepted
-    go (inr other) =
+    go (inr refused) =
         zero_accepted (judge job)
-        (ap (λ (v : RouteVerdict). (route_told v).number) (sym (if_refused (judge job) (plan_verdict job plan) (Refused (judge job)) other)) ∙ e)
+        (ap (λ (v : Verdict). (verdict_told v).number) refused.1 ∙ ap (λ (v : RouteVerdict). (route_told v).number) (sym (if_refused (judge job) refused.0 (plan_verdict job plan) (λ r. Err (OfJob r)) refused.1)) ∙ e)
 
 long_enough : (job : Job) (plan : List ℕ) → (route_told (plan_verdict job plan)).number ≡ 0 → plan_length job ≤ length plan
 unfolding plan_verdict
 long_enough job plan e = go (ltb (length plan) (plan_length job)) refl e
   where
-    go : (b : Bool) → ltb (length plan) (plan_length job) ≡ b → (route_told (elim b [ true ↦ Short (plan_length job) | false ↦ place_verdict (first_wrong_place job (plan_cell job plan)) ])).number ≡ 0 → plan_length job ≤ length plan
+    go : (b : Bool) → ltb (length plan) (plan_length job) ≡ b → (route_told (elim b [ true ↦ Err (Short (plan_length job)) | false ↦ place_verdict (first_wrong_place job (plan_cell job plan)) ])).number ≡ 0 → plan_length job ≤ length plan
     go true t e = absurd (let z : ◌≡◌ {A = ℕ} 7 0 = e in omega arith)
     go false t e = ltb-false (length plan) (plan_length job) t
 
@@ -203,7 +203,7 @@ pub zero_is_lawful : (job : Job) (plan : List ℕ) → (route_told (route_verdic
 unfolding route_verdict
 zero_is_lawful job plan e =
     let accepted = zero_is_accepted job plan e in
-    let long = long_enough job plan (ap (λ (v : RouteVerdict). (route_told v).number) (sym (if_accepted_lem (judge job) (plan_verdict job plan) (Refused (judge job)) accepted)) ∙ e) in
+    let long = long_enough job plan (ap (λ (v : RouteVerdict). (route_told v).number) (sym (if_accepted_lem (judge job) (plan_verdict job plan) (λ r. Err (OfJob r)) accepted)) ∙ e) in
     (accepted, record { long = long; lawful = zero_says_lawful job plan accepted long e })
 
 -- 0 of both checks: the routes are lawful, and no pattern of holds brings two carriers together

@@ -6,10 +6,8 @@ use mathlib.Core.List.{List}
 use mathlib.Core.Logic.{◌↔◌}
 use Rattle.job.specs.Job.{Job}
 use Rattle.job.specs.Verdict.{IsAccepted}
-use Rattle.routes.specs.Check.{route_verdict, route_told}
-use Rattle.routes.specs.declared.RouteVerdict.{RouteVerdict}
-use Rattle.clashes.specs.Check.{meeting_verdict, meeting_told}
-use Rattle.clashes.specs.declared.MeetingVerdict.{MeetingVerdict}
+use Rattle.routes.specs.Check.{RouteVerdict, route_verdict, route_told}
+use Rattle.clashes.specs.Check.{MeetingVerdict, meeting_verdict, meeting_told}
 use Rattle.checks.specs.Demand.{LawfulRoutes, Passes, Safe, SafeNear}
 use Rattle.checks.proofs.Demand.{plan_check_exact, zero_is_lawful}
 use Rattle.checks.proofs.Near.{safe_near}

@@ -8,15 +8,15 @@ use mathlib.Core.List.{List}
 use borrow.Author.Tests.{le-ltb}
 use lib.ListN.{length, take}
 use lib.Seq.{get_or-take, length-take-le, take_all}
+use Rattle.std.specs.Prelude.{Ok, Err}
 use Rattle.lists.proofs.Every.{member_every}
 use Rattle.lists.proofs.Parts.{part_within}
 use Rattle.lists.proofs.Passing.{first_same}
 use Rattle.job.specs.Job.{Job, plan_length, plan_cell}
 use Rattle.job.specs.Verdict.{judge, if_accepted}
+use Rattle.job.specs.declared.CheckRefusal.TheVariants.{Job as OfJob}
 use Rattle.routes.specs.Check.{places, wrong_at, first_wrong_place, place_verdict, plan_verdict, route_verdict}
-use Rattle.routes.specs.declared.RouteVerdict.TheVariants.{Refused}
 use Rattle.clashes.specs.Check.{plan_travel, plan_clash, compared, meeting_verdict}
-use Rattle.clashes.specs.declared.MeetingVerdict.TheVariants.{Compared, Refused as NotCompared}
 use Rattle.clashes.proofs.Same.{chosen_same}
 use Rattle.checks.proofs.Demand.{wrong_same, placed}
 
@@ -54,7 +54,7 @@ module _ (job : Job) (plan : List ℕ) where
 
     same_compared : compared job plan ≡ compared job front
     unfolding compared
-    same_compared = rw (compared, le-ltb (length plan) (plan_length job) long, le-ltb (length front) (plan_length job) front_long) (ap Compared same_clash)
+    same_compared = rw (compared, le-ltb (length plan) (plan_length job) long, le-ltb (length front) (plan_length job) front_long) (ap Ok same_clash)
 
   whole : (plan_length job ≤ length plan → ⊥) → plan ≡ front
   whole short = sym (take_all (plan_length job) plan (let n : ¬ (plan_length job ≤ length plan) = short in omega arith))
@@ -63,7 +63,7 @@ module _ (job : Job) (plan : List ℕ) where
   unfolding route_verdict
   route_reads_the_plan =
       elim (dec_le (plan_length job) (length plan)) [
-        | yes long ↦ ap (λ v. if_accepted (judge job) v (Refused (judge job))) (same_verdict long)
+        | yes long ↦ ap (λ v. if_accepted (judge job) v (λ r. Err (OfJob r))) (same_verdict long)
         | no short ↦ ap (route_verdict job) (whole short)
       ]
 
@@ -71,6 +71,6 @@ module _ (job : Job) (plan : List ℕ) where
   unfolding meeting_verdict
   meeting_reads_the_plan =
       elim (dec_le (plan_length job) (length plan)) [
-        | yes long ↦ ap (λ v. if_accepted (judge job) v (NotCompared (judge job))) (same_compared long)
+        | yes long ↦ ap (λ v. if_accepted (judge job) v (λ r. Err (OfJob r))) (same_compared long)
         | no short ↦ ap (meeting_verdict job) (whole short)
       ]

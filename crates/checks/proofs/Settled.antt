@@ -3,10 +3,8 @@ use Prim.Native.Nat.{ℕ}
 use mathlib.Core.Path.{◌≡◌}
 use mathlib.Core.List.{List}
 use Rattle.job.specs.Job.{Job}
-use Rattle.routes.specs.Check.{route_verdict}
-use Rattle.routes.specs.declared.RouteVerdict.{RouteVerdict}
-use Rattle.clashes.specs.Check.{meeting_verdict}
-use Rattle.clashes.specs.declared.MeetingVerdict.{MeetingVerdict}
+use Rattle.routes.specs.Check.{RouteVerdict, route_verdict}
+use Rattle.clashes.specs.Check.{MeetingVerdict, meeting_verdict}
 
 pub check_routes_settled : (job : Job) (plan : List ℕ) (r r' : RouteVerdict) → r ≡ route_verdict job plan → r' ≡ route_verdict job plan → r ≡ r'
 check_routes_settled job plan r r' e e' = cc

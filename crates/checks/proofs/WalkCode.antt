@@ -1,159 +1,189 @@
--- What the code of the two checks rests on: the bytes that it reads stand in the plan, and each way through it gives what the
--- definition gives where its tests came out so. Assumes nothing.
-use Prim.Native.Nat.{ℕ, ◌+◌, ◌-◌, ◌*◌, ◌≤◌, ◌<◌}
+-- What the code of the two checks rests on: each way through it gives what the definition gives where its tests came out so.
+-- Assumes nothing.
+use Prim.Native.Nat.{ℕ, ◌+◌, ◌-◌}
 use native.Mathlib.Omega.{arith}
-use mathlib.Core.Path.{◌≡◌, sym, ap, ◌∙◌}
-use mathlib.Core.Bool.{Bool, true, false, not}
-use mathlib.Core.List.{List, [], map}
-use mathlib.Core.Option.{Option, none, some}
+use mathlib.Core.Path.{◌≡◌, refl, sym, ap, ◌∙◌}
+use mathlib.Core.Bool.{Bool, true, false, not, cond, true≢false}
+use mathlib.Core.List.{List, [], ◌∷◌, map}
+use mathlib.Core.Option.{Option as First, none, some}
 use lib.Dec.{eqb}
-use lib.ListN.{length, get_or}
-use borrow.Author.Tests.{eq-eqb, ne_eqb, lt-ltb, le-ltb}
+use lib.ListN.{get_or}
+use borrow.Author.Tests.{eq-eqb, ne_eqb, ltb-false}
+use Rattle.std.specs.Prelude.{Option, Some, None, Result, Ok, Err, MatchOption, find, ltb, length, is_ok}
+use Rattle.std.specs.List.{range_with_len}
 use Rattle.lists.specs.Lists.{range, each, any_of, first_of}
 use Rattle.hall.specs.Moves.{may_follow}
+use Rattle.lists.proofs.Ranges.{range_listed}
 use Rattle.job.specs.Job.{Job, plan_length, plan_cell}
-use Rattle.job.specs.Team.{job_of}
-use Rattle.job.specs.Verdict.{judge, judge_with}
-use Rattle.job.specs.declared.Team.{Team}
-use Rattle.job.specs.declared.Verdict.{Verdict}
-use Rattle.job.specs.declared.Verdict.TheVariants.{Accepted}
+use Rattle.job.specs.Team.{lent_job}
+use Rattle.job.specs.Verdict.{Verdict, judge, judge_with, if_accepted}
+use Rattle.job.specs.declared.LentJob.{LentJob}
+use Rattle.job.specs.declared.Refusal.{Refusal}
+use Rattle.job.specs.declared.CheckRefusal.{CheckRefusal}
+use Rattle.job.specs.declared.CheckRefusal.TheVariants.{Job as OfJob, Short}
 use Rattle.job.proofs.Accepted.{accepted_facts}
-use Rattle.job.proofs.Refused.{if_accepted_lem, if_refused}
-use Rattle.routes.specs.Check.{Place, places, wrong_move, wrong_arrival, wrong_at, first_wrong_place, place_verdict, plan_verdict, route_verdict}
-use Rattle.routes.specs.declared.RouteVerdict.TheVariants.{Lawful, Refused, Short, Wrong}
+use Rattle.job.proofs.Refused.{if_refused}
+use Rattle.routes.specs.declared.Place.{Place}
+use Rattle.routes.specs.Check.{places, wrong_move, wrong_arrival, wrong_at, first_wrong_place, place_verdict, plan_verdict, route_verdict}
 use Rattle.clashes.specs.Check.{plan_clash, compared, meeting_verdict}
-use Rattle.clashes.specs.Find.{first_clash, Whole, Within}
+use Rattle.clashes.specs.Find.{first_clash, Whole}
 use Rattle.clashes.specs.declared.Clash.{Clash}
-use Rattle.clashes.specs.declared.MeetingVerdict.TheVariants.{Refused as RefusedJob, Short as ShortPlan, Compared}
-use Rattle.clashes.proofs.Compared.{whole_within}
-use Rattle.checks.specs.Walk.{Limits, Ready, TeamLimits, place_of, wrong_place, places_of, place_found, compared_at}
-use Rattle.checks.specs.declared.Found.{Found}
-use Rattle.checks.specs.declared.Found.TheVariants.{Nowhere, Place as PlaceAt}
-
--- ---- bytes
-
--- where a byte stands does not depend on the slips
-pub byte_within : (job : Job) (plan : List ℕ) → Ready job plan → (i t : ℕ) → i < job.count → t ≤ job.horizon → Within plan job.horizon i t
-byte_within job plan r =
-    whole_within plan [] job.count job.horizon
-    (record { few = r.limits.count_most; slow = λ i l. omega arith; short = r.limits.horizon_most; whole = r.whole })
+use Rattle.checks.specs.Walk.{Limits, Ready, begun, place_of, wrong_place, places_of, PlaceFound}
 
 -- ---- one place of a route
 
 module _ (job : Job) (plan : List ℕ) (i t : ℕ) where
-  pub arrival_start : t ≡ 0 → not (eqb (plan_cell job plan i t) (job.start_of i)) ≡ wrong_arrival job i (plan_cell job plan i) t
+  pub arrival_start : t ≡ 0 → (at : ℕ) → at ≡ plan_cell job plan i t → not (eqb at (job.start_of i)) ≡ wrong_arrival job i (plan_cell job plan i) t
   unfolding wrong_arrival
-  arrival_start e = rw (e, wrong_arrival)
+  arrival_start e at told = rw (told, e, wrong_arrival)
 
   pub arrival_move :
       (from to : ℕ)
-      → from ≡ get_or plan (i * (job.horizon + 1) + t - 1) 0
+      → from ≡ plan_cell job plan i (t - 1)
       → to ≡ plan_cell job plan i t
       → (t ≡ 0 → ⊥)
       → (r : Bool)
       → r ≡ any_of (eqb to) (may_follow job.hall from)
       → not r ≡ wrong_arrival job i (plan_cell job plan i) t
   unfolding wrong_arrival wrong_move
-  arrival_move from to f e n r told =
-      let before : i * (job.horizon + 1) + t - 1 ≡ i * (job.horizon + 1) + (t - 1) = omega arith in
-      rw (told, f, e, before, wrong_arrival, ne_eqb t 0 n)
+  arrival_move from to f e n r told = rw (told, f, e, wrong_arrival, ne_eqb t 0 n)
 
   module _ (arrival : Bool) (told : arrival ≡ wrong_arrival job i (plan_cell job plan i) t) where
     pub at_arrival : arrival ≡ true → true ≡ wrong_at job i (plan_cell job plan i) t
     unfolding wrong_at
     at_arrival e = simp (← told, e)
 
-    pub at_goal : arrival ≡ false → t + 1 ≡ job.horizon + 1 → not (eqb (plan_cell job plan i t) (job.goal_of i)) ≡ wrong_at job i (plan_cell job plan i) t
+    pub at_goal : arrival ≡ false → t ≡ job.horizon → (at : ℕ) → at ≡ plan_cell job plan i t → not (eqb at (job.goal_of i)) ≡ wrong_at job i (plan_cell job plan i) t
     unfolding wrong_at
-    at_goal e last = let h : t ≡ job.horizon = omega arith in simp (← told, e, eq-eqb t job.horizon h)
+    at_goal e last at here = simp (here, ← told, e, eq-eqb t job.horizon last)
 
-    pub at_inside : arrival ≡ false → (t + 1 ≡ job.horizon + 1 → ⊥) → false ≡ wrong_at job i (plan_cell job plan i) t
+    pub at_inside : arrival ≡ false → (t ≡ job.horizon → ⊥) → false ≡ wrong_at job i (plan_cell job plan i) t
     unfolding wrong_at
-    at_inside e inside = simp (← told, e, ne_eqb t job.horizon (λ (h : t ≡ job.horizon). inside (omega arith)))
+    at_inside e inside = simp (← told, e, ne_eqb t job.horizon inside)
+
+-- the same of a lent job, whose starts and goals are lists
+module _ (job : LentJob) (plan : List ℕ) (i t at : ℕ) (here : at ≡ plan_cell (lent_job job) plan i t) where
+  pub lent_start : t ≡ 0 → not (eqb at (get_or job.team.starts i 0)) ≡ wrong_arrival (lent_job job) i (plan_cell (lent_job job) plan i) t
+  lent_start e = arrival_start (lent_job job) plan i t e at here
+
+  pub lent_goal : (arrival : Bool) → arrival ≡ wrong_arrival (lent_job job) i (plan_cell (lent_job job) plan i) t → arrival ≡ false → t ≡ job.horizon → not (eqb at (get_or job.team.goals i 0)) ≡ wrong_at (lent_job job) i (plan_cell (lent_job job) plan i) t
+  lent_goal arrival told e last = at_goal (lent_job job) plan i t arrival told e last at here
 
 -- ---- the places, as the loops go through them
-
-pub steps_from : (h i : ℕ) → places_of h i ≡ map (place_of i) (range 0 (h + 1 - 0))
-unfolding places_of
-steps_from h i = let e : h + 1 - 0 ≡ h + 1 = omega arith in rw e
 
 pub places_from : (job : Job) (plan : List ℕ) → first_wrong_place job (plan_cell job plan) ≡ first_of (wrong_place job plan) (each (places_of job.horizon) (range 0 (job.count - 0)))
 unfolding first_wrong_place places places_of wrong_place
 places_from job plan = let e : job.count - 0 ≡ job.count = omega arith in rw e
 
--- ---- the checks of an accepted job; needed is the length that the plan's is compared with
+-- what `find` gives of the steps of carrier i is the first of its places that is wrong
+module _ (job : Job) (plan : List ℕ) (i : ℕ) where
+  wrong_step : ℕ → Bool
+  wrong_step = wrong_at job i (plan_cell job plan i)
 
-module _ (job : Job) (plan : List ℕ) (needed : ℕ) (told : needed ≡ plan_length job) where
-  pub plan_short : length plan < needed → Short needed ≡ plan_verdict job plan
-  unfolding plan_verdict
-  plan_short less = rw (told, plan_verdict, lt-ltb (length plan) (plan_length job) (omega arith))
+  abbrev SamePlace : Option ℕ → First Place → Type 0
+  SamePlace found first = MatchOption found (first ≡ none) (λ t. first ≡ some (place_of i t))
 
-  pub plan_whole : needed ≤ length plan → plan_length job ≤ length plan
-  plan_whole long = omega arith
+  same_place : (ts : List ℕ) → SamePlace (find wrong_step ts) (first_of (wrong_place job plan) (map (place_of i) ts))
+  unfolding first_of wrong_place wrong_step
+  same_place [] = refl
+  same_place (t ∷ ts) =
+      elim (wrong_at job i (plan_cell job plan i) t) as (λ (b : Bool). SamePlace (cond b (Some t) (find wrong_step ts)) (elim b [ true ↦ some (place_of i t) | false ↦ first_of (wrong_place job plan) (map (place_of i) ts) ])) [ true ↦ refl | false ↦ same_place ts ]
 
-  pub plan_walked : needed ≤ length plan → place_verdict (first_wrong_place job (plan_cell job plan)) ≡ plan_verdict job plan
-  unfolding plan_verdict
-  plan_walked long = rw (plan_verdict, le-ltb (length plan) (plan_length job) (plan_whole long))
+  row_same : (found : Option ℕ) → found ≡ find wrong_step (range_with_len 0 (job.horizon + 1)) → SamePlace found (first_of (wrong_place job plan) (places_of job.horizon i))
+  unfolding places_of
+  row_same found e = rw (e, range_listed) (same_place (range 0 (job.horizon + 1)))
 
-module _ (f : Found) (o : Option Place) (told : place_found f ≡ o) where
-  pub found_nowhere : f ≡ Nowhere → o ≡ none
-  unfolding place_found
-  found_nowhere e = sym told ∙ ap place_found e
+  pub row_found : (found : Option ℕ) → found ≡ find (wrong_at job i (plan_cell job plan i)) (range_with_len 0 (job.horizon + 1)) → (t : ℕ) → found ≡ Some t → first_of (wrong_place job plan) (places_of job.horizon i) ≡ some (place_of i t)
+  unfolding wrong_step
+  row_found found e t is = row_same (Some t) (sym is ∙ e)
 
-  pub found_place : (i t : ℕ) → f ≡ PlaceAt i t → o ≡ some (place_of i t)
-  unfolding place_found
-  found_place i t e = sym told ∙ ap place_found e
+  pub row_none : (found : Option ℕ) → found ≡ find (wrong_at job i (plan_cell job plan i)) (range_with_len 0 (job.horizon + 1)) → found ≡ None → first_of (wrong_place job plan) (places_of job.horizon i) ≡ none
+  unfolding wrong_step
+  row_none found e is = row_same None (sym is ∙ e)
 
-pub none_lawful : (o : Option Place) → o ≡ none → Lawful ≡ place_verdict o
-unfolding place_verdict
-none_lawful o e = rw e
+-- ---- what both checks begin with
 
-pub some_wrong : (o : Option Place) (i t : ℕ) → o ≡ some (place_of i t) → Wrong i t ≡ place_verdict o
-unfolding place_verdict
-some_wrong o i t e = rw e
-
-module _ (plan : List ℕ) (team : Team) (h needed : ℕ) (told : needed ≡ team.count * (h + 1)) where
-  pub compared_short : length plan < needed → ShortPlan needed ≡ compared_at plan team h
-  unfolding compared_at
-  compared_short less = rw (told, compared_at, lt-ltb (length plan) (team.count * (h + 1)) (omega arith))
-
-  pub compared_whole : TeamLimits team h → needed ≤ length plan → Whole plan team.slips team.count h
-  compared_whole l long = record { few = l.count_most; slow = l.slip_most; short = l.horizon_most; whole = omega arith }
-
-  pub compared_clash : needed ≤ length plan → (c : Clash) → c ≡ first_clash plan team h → Compared c ≡ compared_at plan team h
-  unfolding compared_at
-  compared_clash long c found = rw (compared_at, le-ltb (length plan) (team.count * (h + 1)) (omega arith), found)
-
--- ---- the checks; v is what checks 1 to 6 and 16 said
-
-pub accepted_limits : (job : Job) (v : Verdict) → v ≡ judge_with false job → v ≡ Accepted → Limits job
+pub accepted_limits : (job : Job) (v : Verdict) → v ≡ judge_with false job → v ≡ Ok tt → Limits job
 accepted_limits job v told e =
     let f = accepted_facts false job (sym told ∙ e) in
-    record { width_least = f.width_least; width_most = f.width_most; height_most = f.height_most; count_most = f.count_most; horizon_most = f.horizon_most }
+    record { width_least = f.width_least; width_most = f.width_most; height_most = f.height_most; count_most = f.count_most; slip_most = f.slip_most; horizon_most = f.horizon_most }
 
-module _ (job : Job) (plan : List ℕ) (v : Verdict) (told : v ≡ judge_with false job) where
-  pub routes_accepted : v ≡ Accepted → plan_verdict job plan ≡ route_verdict job plan
-  unfolding route_verdict judge
-  routes_accepted e = sym (if_accepted_lem (judge_with false job) (plan_verdict job plan) (Refused (judge_with false job)) (sym told ∙ e))
+-- what comes after both checks' beginning
+after : {A : Type 0} → Result (Unit {0}) CheckRefusal → Result A CheckRefusal → Result A CheckRefusal
+after (Ok u) go = go
+after (Err r) go = Err r
 
-  pub routes_refused : (v ≡ Accepted → ⊥) → Refused v ≡ route_verdict job plan
-  unfolding route_verdict judge
-  routes_refused refused = rw (← told) (sym (if_refused v (plan_verdict job plan) (Refused v) refused))
+-- a verdict, and whether the plan is short
+module _ (needed : ℕ) where
+  abbrev beginning : {A : Type 0} → Verdict → Bool → Result A CheckRefusal → Result A CheckRefusal
+  beginning v short go = if_accepted v (elim short [ true ↦ Err (Short needed) | false ↦ go ]) (λ r. Err (OfJob r))
 
-  pub meetings_refused : (v ≡ Accepted → ⊥) → RefusedJob v ≡ meeting_verdict job plan
-  unfolding meeting_verdict judge
-  meetings_refused refused = rw (← told) (sym (if_refused v (compared job plan) (RefusedJob v) refused))
+  begins : {A : Type 0} (v : Verdict) (short : Bool) (go : Result A CheckRefusal) → beginning v short go ≡ after (beginning v short (Ok tt)) go
+  unfolding if_accepted after
+  begins (Ok u) true go = refl
+  begins (Ok u) false go = refl
+  begins (Err r) short go = refl
+
+  begins_well : (v : Verdict) (short : Bool) → beginning {A = Unit {0}} v short (Ok tt) ≡ Ok tt → (v ≡ Ok tt) × (short ≡ false)
+  unfolding if_accepted
+  begins_well (Ok u) true e = absurd (true≢false (sym (ap is_ok e)))
+  begins_well (Ok u) false e = (refl, refl)
+  begins_well (Err r) short e = absurd (true≢false (sym (ap is_ok e)))
+
+place_told : (found : Option Place) (first : First Place) → PlaceFound found first → Ok found ≡ place_verdict first
+unfolding place_verdict
+place_told None first e = rw e
+place_told (Some p) first e = rw e
+
+module _ (job : Job) (plan : List ℕ) where
+  -- the verdicts of both checks, after their beginning
+  routes_after : route_verdict job plan ≡ after (begun job plan) (place_verdict (first_wrong_place job (plan_cell job plan)))
+  unfolding route_verdict plan_verdict begun
+  routes_after = begins (plan_length job) (judge job) (ltb (length plan) (plan_length job)) (place_verdict (first_wrong_place job (plan_cell job plan)))
+
+  meetings_after : meeting_verdict job plan ≡ after (begun job plan) (Ok (plan_clash job plan))
+  unfolding meeting_verdict compared begun
+  meetings_after = begins (plan_length job) (judge job) (ltb (length plan) (plan_length job)) (Ok (plan_clash job plan))
+
+  pub refused_routes : (r : CheckRefusal) → begun job plan ≡ Err r → Err r ≡ route_verdict job plan
+  unfolding after
+  refused_routes r e = sym (routes_after ∙ ap (λ b. after b (place_verdict (first_wrong_place job (plan_cell job plan)))) e)
+
+  pub refused_meetings : (r : CheckRefusal) → begun job plan ≡ Err r → Err r ≡ meeting_verdict job plan
+  unfolding after
+  refused_meetings r e = sym (meetings_after ∙ ap (λ b. after b (Ok (plan_clash job plan))) e)
+
+  -- so a refused job is refused by both
+  pub routes_refused : (r : Refusal) → judge job ≡ Err r → Err (OfJob r) ≡ route_verdict job plan
+  unfolding route_verdict
+  routes_refused r e = sym (if_refused (judge job) r (plan_verdict job plan) (λ q. Err (OfJob q)) e)
+
+  pub meetings_refused : (r : Refusal) → judge job ≡ Err r → Err (OfJob r) ≡ meeting_verdict job plan
+  unfolding meeting_verdict
+  meetings_refused r e = sym (if_refused (judge job) r (compared job plan) (λ q. Err (OfJob q)) e)
+
+  module _ (e : begun job plan ≡ Ok tt) where
+    pub begun_ready : Ready job plan
+    unfolding begun judge
+    begun_ready =
+        let (accepted, long) = begins_well (plan_length job) (judge job) (ltb (length plan) (plan_length job)) e in
+        record { limits = accepted_limits job (judge job) refl accepted; whole = ltb-false (length plan) (plan_length job) long }
+
+    pub begun_routes : (found : Option Place) → PlaceFound found (first_wrong_place job (plan_cell job plan)) → Ok found ≡ route_verdict job plan
+    unfolding after
+    begun_routes found is = place_told found (first_wrong_place job (plan_cell job plan)) is ∙ sym (routes_after ∙ ap (λ b. after b (place_verdict (first_wrong_place job (plan_cell job plan)))) e)
+
+    begun_clash : Ok (plan_clash job plan) ≡ meeting_verdict job plan
+    unfolding after
+    begun_clash = sym (meetings_after ∙ ap (λ b. after b (Ok (plan_clash job plan))) e)
 
 -- what the meeting check goes on with: the numbers of the lent team
-module _ (width height : ℕ) (bytes : List ℕ) (team : Team) (h : ℕ) (v : Verdict) (told : v ≡ judge_with false (job_of width height bytes team h)) where
-  abbrev lent : Job
-  lent = job_of width height bytes team h
+module _ (job : LentJob) (plan : List ℕ) (e : begun (lent_job job) plan ≡ Ok tt) where
+  pub begun_whole : Whole plan job.team.slips job.team.count job.horizon
+  begun_whole =
+      let r = begun_ready (lent_job job) plan e in
+      record { few = r.limits.count_most; slow = r.limits.slip_most; short = r.limits.horizon_most; whole = r.whole }
 
-  pub accepted_team : v ≡ Accepted → TeamLimits team h
-  accepted_team e =
-      let f = accepted_facts false lent (sym told ∙ e) in
-      record { count_most = f.count_most; slip_most = f.slip_most; horizon_most = f.horizon_most }
-
-  pub meetings_accepted : (plan : List ℕ) → v ≡ Accepted → compared_at plan team h ≡ meeting_verdict lent plan
-  unfolding meeting_verdict judge compared_at compared plan_clash
-  meetings_accepted plan e = sym (if_accepted_lem (judge_with false lent) (compared lent plan) (RefusedJob (judge_with false lent)) (sym told ∙ e))
+  pub begun_meetings : (c : Clash) → c ≡ first_clash plan job.team job.horizon → Ok c ≡ meeting_verdict (lent_job job) plan
+  unfolding plan_clash
+  begun_meetings c is = ap Ok is ∙ begun_clash (lent_job job) plan e

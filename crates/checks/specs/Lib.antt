@@ -1,3 +1,4 @@
 pub mod Demand
 pub mod First
+pub mod Lent
 pub mod Walk

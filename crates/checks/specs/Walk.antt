@@ -1,17 +1,15 @@
--- What the code of the two checks may assume of an accepted job, and the places of the route check in the order in which it
--- walks through them: carrier by carrier, step by step.
-use Rattle.std.specs.Prelude.{ℕ, ◌+◌, ◌*◌, ◌≤◌, ◌<◌, Bool, true, false, List, map, ltb, length, get_or}
-use Rattle.std.proofs.Math.Option.{Option, none, some}
+-- What the code of the two checks may assume of an accepted job, what both checks begin with, and the places of the route check
+-- in the order in which it walks through them: carrier by carrier, step by step.
+use Rattle.std.specs.Prelude.{ℕ, ◌+◌, ◌≤◌, ◌<◌, ◌≡◌, Bool, true, false, List, map, ltb, length, Option, MatchOption, Result, Ok, Err}
+use Rattle.std.proofs.Math.Option.{Option as First, none, some}
 use Rattle.lists.specs.Lists.{range}
 use Rattle.hall.specs.Hall.{most_side}
 use Rattle.job.specs.Job.{Job, plan_length, plan_cell, most_carriers, most_slip, most_horizon}
-use Rattle.job.specs.declared.Team.{Team}
-use Rattle.routes.specs.Check.{Place, wrong_at}
-use Rattle.clashes.specs.Find.{first_clash}
-use Rattle.clashes.specs.declared.MeetingVerdict.{MeetingVerdict}
-use Rattle.clashes.specs.declared.MeetingVerdict.TheVariants.{Short, Compared}
-use Rattle.checks.specs.declared.Found.{Found}
-use Rattle.checks.specs.declared.Found.TheVariants.{Nowhere, Place as PlaceAt}
+use Rattle.job.specs.Verdict.{judge, if_accepted}
+use Rattle.job.specs.declared.CheckRefusal.{CheckRefusal}
+use Rattle.job.specs.declared.CheckRefusal.TheVariants.{Job as OfJob, Short}
+use Rattle.routes.specs.Check.{wrong_at}
+use Rattle.routes.specs.declared.Place.{Place}
 
 -- the numbers of an accepted job
 pub record Limits (job : Job) : Type 0 where
@@ -19,6 +17,7 @@ pub record Limits (job : Job) : Type 0 where
   pub width_most : job.hall.width ≤ most_side
   pub height_most : job.hall.height ≤ most_side
   pub count_most : job.count ≤ most_carriers
+  pub slip_most : (i : ℕ) → i < job.count → job.slip_of i ≤ most_slip
   pub horizon_most : job.horizon ≤ most_horizon
 
 -- with them a plan that is long enough
@@ -26,11 +25,9 @@ pub record Ready (job : Job) (plan : List ℕ) : Type 0 where
   pub limits : Limits job
   pub whole : plan_length job ≤ length plan
 
--- the numbers of an accepted job that the meeting check looks at
-pub record TeamLimits (team : Team) (h : ℕ) : Type 0 where
-  pub count_most : team.count ≤ most_carriers
-  pub slip_most : (i : ℕ) → i < team.count → get_or team.slips i 0 ≤ most_slip
-  pub horizon_most : h ≤ most_horizon
+-- 'Both begin with checks 1 to 6 (no N there), then 7 if the plan is shorter than m × (H + 1)'
+unfoldable pub begun : Job → List ℕ → Result (Unit {0}) CheckRefusal
+begun job plan = if_accepted (judge job) (elim (ltb (length plan) (plan_length job)) [ true ↦ Err (Short (plan_length job)) | false ↦ Ok tt ]) (λ r. Err (OfJob r))
 
 abbrev pub place_of : ℕ → ℕ → Place
 place_of i t = record { carrier = i; step = t }
@@ -43,10 +40,6 @@ wrong_place job plan p = wrong_at job p.carrier (plan_cell job plan p.carrier) p
 unfoldable pub places_of : ℕ → ℕ → List Place
 places_of h i = map (place_of i) (range 0 (h + 1))
 
-unfoldable pub place_found : Found → Option Place
-place_found Nowhere = none
-place_found (PlaceAt i t) = some (place_of i t)
-
--- the meeting check of an accepted job, of the numbers it looks at
-unfoldable pub compared_at : List ℕ → Team → ℕ → MeetingVerdict
-compared_at plan team h = elim (ltb (length plan) (team.count * (h + 1))) [ true ↦ Short (team.count * (h + 1)) | false ↦ Compared (first_clash plan team h) ]
+-- what was found is the first place, or nothing was found and there is none
+abbrev pub PlaceFound : Option Place → First Place → Type 0
+PlaceFound found first = MatchOption found (first ≡ none) (λ p. first ≡ some p)

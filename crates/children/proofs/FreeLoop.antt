@@ -32,33 +32,33 @@ use Rattle.children.proofs.FreeRoutes.{free_all, free_lacks, free_count_all, fre
 
 -- ---- the route of one carrier
 
-module _ (task : Task) (bytes columns plans layers layers' : List ℕ) (i : ℕ) (unbarred : bar_at task.capacity columns 0 ≡ Free) (found : Bool) (sought : RouteSought task bytes columns 0 i Free layers layers' found) where
-  same_route : route_under (job_on task bytes) [] i ≡ route_on task bytes columns 0 i Free
-  same_route = free_route task.capacity columns unbarred (job_on task bytes) i
+module _ (task : Task) (columns plans layers layers' : List ℕ) (i : ℕ) (unbarred : bar_at task.capacity columns 0 ≡ Free) (found : Bool) (sought : RouteSought task columns 0 i Free layers layers' found) where
+  same_route : route_under (job_on task) [] i ≡ route_on task columns 0 i Free
+  same_route = free_route task.capacity columns unbarred (job_on task) i
 
   -- 'no bar' marks nothing
-  free_sought : SoughtFree task bytes i layers'
+  free_sought : SoughtFree task i layers'
   unfolding bound_by bars_for
-  free_sought = free_filled (job_on task bytes).hall [] (get_or task.team.starts i 0) (get_or task.team.goals i 0) task.horizon layers' (rw (root_unbarred task.capacity columns unbarred) at sought.sought)
+  free_sought = free_filled (job_on task).hall [] (get_or task.job.team.starts i 0) (get_or task.job.team.goals i 0) task.job.horizon layers' (rw (root_unbarred task.capacity columns unbarred) at sought.sought)
 
-  pub none_free : found ≡ false → FreeRoute task bytes i plans layers plans layers' false
+  pub none_free : found ≡ false → FreeRoute task i plans layers plans layers' false
   unfolding put_route
   none_free e =
-      let told : false ≡ is_found (route_under (job_on task bytes) [] i) = sym e ∙ sought.told ∙ ap is_found (sym same_route) in
+      let told : false ≡ is_found (route_under (job_on task) [] i) = sym e ∙ sought.told ∙ ap is_found (sym same_route) in
       record {
         told = told;
-        put = rw (not_found (route_under (job_on task bytes) [] i) told) refl;
+        put = rw (not_found (route_under (job_on task) [] i) told) refl;
         sought = free_sought;
         layers_kept = sought.layers_kept;
       }
 
-  pub one_free : (plans' : List ℕ) → Ready task bytes layers' → i < task.team.count → found ≡ true → RoutePut task layers' 0 i plans plans' → FreeRoute task bytes i plans layers plans' layers' true
+  pub one_free : (plans' : List ℕ) → Ready task layers' → i < task.job.team.count → found ≡ true → RoutePut task layers' 0 i plans plans' → FreeRoute task i plans layers plans' layers' true
   one_free plans' ready inside e put =
-      let (r, best) = was_found (route_on task bytes columns 0 i Free) (sym e ∙ sought.told) in
-      let read = route_read_lem task bytes columns 0 i Free layers' r ready inside sought.sought best in
+      let (r, best) = was_found (route_on task columns 0 i Free) (sym e ∙ sought.told) in
+      let read = route_read_lem task columns 0 i Free layers' r ready inside sought.sought best in
       record {
         told = sym e ∙ sought.told ∙ ap is_found (sym same_route);
-        put = put bytes ∙ ap (put_route (job_on task bytes) plans 0 i) (ap some read ∙ sym best ∙ sym same_route);
+        put = put ∙ ap (put_route (job_on task) plans 0 i) (ap some read ∙ sym best ∙ sym same_route);
         sought = free_sought;
         layers_kept = sought.layers_kept;
       }
@@ -66,18 +66,18 @@ module _ (task : Task) (bytes columns plans layers layers' : List ℕ) (i : ℕ)
 -- ---- the loop over the carriers
 
 -- the first i carriers have a route without bars, and it is written; the layers are those of the last of them
-pub record FreeSoFar (task : Task) (bytes plans layers plans' layers' : List ℕ) (i : ℕ) : Type 0 where
-  pub written : (j : ℕ) → j < i → route_under (job_on task bytes) [] j ≡ some (route_of (routes_in (job_on task bytes) (stretch_at (job_on task bytes) plans' 0)) j)
-  pub put : plans' ≡ root_plans (job_on task bytes) plans i
-  pub sought : 0 < i → SoughtFree task bytes (i - 1) layers'
-  pub plans_kept : SameFrom (plans_length (job_on task bytes) task.capacity) plans plans'
-  pub layers_kept : SameFrom (layers_length (job_on task bytes)) layers layers'
+pub record FreeSoFar (task : Task) (plans layers plans' layers' : List ℕ) (i : ℕ) : Type 0 where
+  pub written : (j : ℕ) → j < i → route_under (job_on task) [] j ≡ some (route_of (routes_in (job_on task) (stretch_at (job_on task) plans' 0)) j)
+  pub put : plans' ≡ root_plans (job_on task) plans i
+  pub sought : 0 < i → SoughtFree task (i - 1) layers'
+  pub plans_kept : SameFrom (plans_length (job_on task) task.capacity) plans plans'
+  pub layers_kept : SameFrom (layers_length (job_on task)) layers layers'
 
-module _ (task : Task) (bytes plans layers : List ℕ) where
+module _ (task : Task) (plans layers : List ℕ) where
   abbrev job : Job
-  job = job_on task bytes
+  job = job_on task
 
-  pub free_start : FreeSoFar task bytes plans layers plans layers 0
+  pub free_start : FreeSoFar task plans layers plans layers 0
   unfolding root_plans
   free_start =
       record {
@@ -88,7 +88,7 @@ module _ (task : Task) (bytes plans layers : List ℕ) where
         layers_kept = same_from _ layers;
       }
 
-  module _ (enough : 1 ≤ task.capacity) (room : plans_length job task.capacity ≤ length plans) (i : ℕ) (inside : i < task.team.count) (plans₁ layers₁ plans₂ layers₂ : List ℕ) (found : Bool) (before : FreeSoFar task bytes plans layers plans₁ layers₁ i) (turn : FreeRoute task bytes i plans₁ layers₁ plans₂ layers₂ found) where
+  module _ (enough : 1 ≤ task.capacity) (room : plans_length job task.capacity ≤ length plans) (i : ℕ) (inside : i < task.job.team.count) (plans₁ layers₁ plans₂ layers₂ : List ℕ) (found : Bool) (before : FreeSoFar task plans layers plans₁ layers₁ i) (turn : FreeRoute task i plans₁ layers₁ plans₂ layers₂ found) where
     room₁ : plans_length job task.capacity ≤ length plans₁
     room₁ = omega (arith, before.plans_kept.long)
 
@@ -105,7 +105,7 @@ module _ (task : Task) (bytes plans layers : List ℕ) where
     put_again : plans₂ ≡ put_route job (root_plans job plans i) 0 i (route_under job [] i)
     put_again = turn.put ∙ ap (λ (l : List ℕ). put_route job l 0 i (route_under job [] i)) before.put
 
-    pub free_turn : found ≡ true → FreeSoFar task bytes plans layers plans₂ layers₂ (i + 1)
+    pub free_turn : found ≡ true → FreeSoFar task plans layers plans₂ layers₂ (i + 1)
     unfolding root_plans
     free_turn e =
         let (r, is) = was_found (route_under job [] i) (sym e ∙ turn.told) in
@@ -118,39 +118,39 @@ module _ (task : Task) (bytes plans layers : List ℕ) where
               rw put
               (free_more job plans₁ (omega (arith, stretch_within job task.capacity 0 enough, room₁)) i inside r is before.written);
           put = put_again ∙ one_more;
-          sought = λ l. subst (λ (n : ℕ). SoughtFree task bytes n layers₂) same turn.sought;
+          sought = λ l. subst (λ (n : ℕ). SoughtFree task n layers₂) same turn.sought;
           plans_kept = plans_still;
           layers_kept = layers_still;
         }
 
-    pub free_stop : found ≡ false → FreeRoutes task bytes plans layers plans₂ layers₂ false
+    pub free_stop : found ≡ false → FreeRoutes task plans layers plans₂ layers₂ false
     unfolding FreeFact put_route
     free_stop e =
         let lacks = not_found (route_under job [] i) (sym e ∙ turn.told) in
-        let count = free_count_lacks job (route_of (routes_in job (stretch_at job plans₁ 0))) i 0 task.team.count (omega arith) (omega arith) (λ j k l. before.written j l) lacks in
+        let count = free_count_lacks job (route_of (routes_in job (stretch_at job plans₁ 0))) i 0 task.job.team.count (omega arith) (omega arith) (λ j k l. before.written j l) lacks in
         let first : i ≡ free_count job = omega (arith, count) in
         let last : i ≡ last_sought job = omega (arith, first) in
         record {
-          told = free_lacks job i 0 task.team.count (omega arith) (omega arith) lacks;
+          told = free_lacks job i 0 task.job.team.count (omega arith) (omega arith) lacks;
           routes = put_again ∙ rw lacks (ap (root_plans job plans) first);
-          sought = subst (λ (n : ℕ). SoughtFree task bytes n layers₂) last turn.sought;
+          sought = subst (λ (n : ℕ). SoughtFree task n layers₂) last turn.sought;
           plans_kept = plans_still;
           layers_kept = layers_still;
         }
 
-  pub free_done : 1 ≤ task.team.count → (i : ℕ) (plans' layers' : List ℕ) → i ≡ task.team.count → FreeSoFar task bytes plans layers plans' layers' i → FreeRoutes task bytes plans layers plans' layers' true
+  pub free_done : 1 ≤ task.job.team.count → (i : ℕ) (plans' layers' : List ℕ) → i ≡ task.job.team.count → FreeSoFar task plans layers plans' layers' i → FreeRoutes task plans layers plans' layers' true
   unfolding FreeFact
   free_done one i plans' layers' all before =
-      let count = free_count_all job (route_of (routes_in job (stretch_at job plans' 0))) 0 task.team.count (λ j k l. before.written j (omega arith)) in
+      let count = free_count_all job (route_of (routes_in job (stretch_at job plans' 0))) 0 task.job.team.count (λ j k l. before.written j (omega arith)) in
       let full : i ≡ free_count job = omega (arith, count) in
       let last : i - 1 ≡ last_sought job = omega (arith, count) in
       record {
         told =
-            free_all job (route_in task.horizon (stretch_at job plans' 0)) 0 task.team.count
+            free_all job (route_in task.job.horizon (stretch_at job plans' 0)) 0 task.job.team.count
             (λ j k l. before.written j (omega arith) ∙ ap some (route_in_lem job (stretch_at job plans' 0) j (omega arith)))
             ∙ (unfold routes_in in refl);
         routes = before.put ∙ ap (root_plans job plans) full;
-        sought = subst (λ (n : ℕ). SoughtFree task bytes n layers') last (before.sought (omega arith));
+        sought = subst (λ (n : ℕ). SoughtFree task n layers') last (before.sought (omega arith));
         plans_kept = before.plans_kept;
         layers_kept = before.layers_kept;
       }

@@ -11,8 +11,6 @@ use Rattle.lent.specs.Lent.{SameFrom}
 use Rattle.job.specs.Job.{Job, plan_length}
 use Rattle.routes.specs.declared.Bar.{Bar}
 use Rattle.routes.specs.Best.{best_route}
-use Rattle.records.specs.Columns.{Falls}
-use Rattle.tables.specs.State.{Sound}
 use Rattle.tables.specs.Post.{Recorded}
 use Rattle.lists.proofs.Parts.{part_within, written, written-length, written_above, paste-written}
 use Rattle.children.specs.declared.Task.{Task}
@@ -82,8 +80,8 @@ module _ (job : Job) (capacity x i : ℕ) (l : x < capacity) (k : i < job.count)
 
 -- ---- what the steps before have shown, after a step that keeps it
 
-pub ready_still : (task : Task) (bytes layers layers' : List ℕ) → length layers' ≡ length layers → Ready task bytes layers → Ready task bytes layers'
-ready_still task bytes layers layers' e ready =
+pub ready_still : (task : Task) (layers layers' : List ℕ) → length layers' ≡ length layers → Ready task layers → Ready task layers'
+ready_still task layers layers' e ready =
     record {
       width_least = ready.width_least;
       width_most = ready.width_most;
@@ -100,7 +98,3 @@ ready_still task bytes layers layers' e ready =
       goals_inside = ready.goals_inside;
       layers_long = omega (arith, ready.layers_long);
     }
-
-pub sound_falls : (job : Job) (capacity : ℕ) (columns plans : List ℕ) (made x : ℕ) → Sound job capacity columns plans made → x < made → Falls capacity columns x
-sound_falls job capacity columns plans made x sound l =
-    record { room = sound.columns_long; small = sound.small; inside = omega (arith, sound.made); down = λ y k h. sound.down y k (omega arith) }

@@ -31,26 +31,26 @@ two_planes_kept job before after = subst (λ (n : ℕ). SameFrom n before after)
 
 -- ---- a child
 
-module _ (task : Task) (bytes columns plans layers : List ℕ) (x : ℕ) (b : Barred) (made : ℕ) where
+module _ (task : Task) (columns plans layers : List ℕ) (x : ℕ) (b : Barred) (made : ℕ) where
   -- the contract of `add_child`, clause by clause, of an answer and the tables left
   pub record ChildAllowed (g : Grown) (columns' plans' layers' : List ℕ) : Type 0 where
-    pub kept : Kept task bytes columns plans layers columns' plans' layers'
-    pub grown : ChildFact (job_on task bytes) task.capacity x b made columns plans columns' plans' g
-    pub tables : ChildTables task bytes x b made columns plans columns' plans' layers' g
+    pub kept : Kept task columns plans layers columns' plans' layers'
+    pub grown : ChildFact (job_on task) task.capacity x b made columns plans columns' plans' g
+    pub tables : ChildTables task x b made columns plans columns' plans' layers' g
 
-  same_grown : (c p c' p' : List ℕ) (g g' : Grown) → ChildFact (job_on task bytes) task.capacity x b made columns plans c p g → ChildFact (job_on task bytes) task.capacity x b made columns plans c' p' g' → g ≡ g'
+  same_grown : (c p c' p' : List ℕ) (g g' : Grown) → ChildFact (job_on task) task.capacity x b made columns plans c p g → ChildFact (job_on task) task.capacity x b made columns plans c' p' g' → g ≡ g'
   unfolding ChildFact
   same_grown c p c' p' Nothing Nothing f f' = refl
-  same_grown c p c' p' Nothing Made f f' = absurd (not_none (child (job_on task bytes) (node_at (job_on task bytes) task.capacity columns plans x) b) f f'.0)
-  same_grown c p c' p' Nothing Full f f' = absurd (not_none (child (job_on task bytes) (node_at (job_on task bytes) task.capacity columns plans x) b) f f'.1)
-  same_grown c p c' p' Made Nothing f f' = absurd (not_none (child (job_on task bytes) (node_at (job_on task bytes) task.capacity columns plans x) b) f' f.0)
+  same_grown c p c' p' Nothing Made f f' = absurd (not_none (child (job_on task) (node_at (job_on task) task.capacity columns plans x) b) f f'.0)
+  same_grown c p c' p' Nothing Full f f' = absurd (not_none (child (job_on task) (node_at (job_on task) task.capacity columns plans x) b) f f'.1)
+  same_grown c p c' p' Made Nothing f f' = absurd (not_none (child (job_on task) (node_at (job_on task) task.capacity columns plans x) b) f' f.0)
   same_grown c p c' p' Made Made f f' = refl
   same_grown c p c' p' Made Full f f' = absurd (omega (arith, f.1.made, f'.0))
-  same_grown c p c' p' Full Nothing f f' = absurd (not_none (child (job_on task bytes) (node_at (job_on task bytes) task.capacity columns plans x) b) f' f.1)
+  same_grown c p c' p' Full Nothing f f' = absurd (not_none (child (job_on task) (node_at (job_on task) task.capacity columns plans x) b) f' f.1)
   same_grown c p c' p' Full Made f f' = absurd (omega (arith, f.0, f'.1.made))
   same_grown c p c' p' Full Full f f' = refl
 
-  same_written : (c p c' p' : List ℕ) (g : Grown) → ChildWritten task bytes x b made columns plans c p g → ChildWritten task bytes x b made columns plans c' p' g → (c ≡ c') × (p ≡ p')
+  same_written : (c p c' p' : List ℕ) (g : Grown) → ChildWritten task x b made columns plans c p g → ChildWritten task x b made columns plans c' p' g → (c ≡ c') × (p ≡ p')
   unfolding ChildWritten
   same_written c p c' p' Nothing w w' = (w.0 ∙ sym w'.0, w.1 ∙ sym w'.1)
   same_written c p c' p' Full w w' = (w.0 ∙ sym w'.0, w.1 ∙ sym w'.1)
@@ -62,26 +62,26 @@ module _ (task : Task) (bytes columns plans layers : List ℕ) (x : ℕ) (b : Ba
   add_child_settled g g' c p l c' p' l' a a' =
       let answer = same_grown c p c' p' g g' a.grown a'.grown in
       let written = same_written c p c' p' g a.tables.written (rw (sym answer) at a'.tables.written) in
-      (answer, written.0, written.1, filled_settled (job_on task bytes).hall _ _ _ task.horizon layers l l' a.tables.sought a'.tables.sought (two_planes_kept (job_on task bytes) layers l a.kept.layers_kept) (two_planes_kept (job_on task bytes) layers l' a'.kept.layers_kept))
+      (answer, written.0, written.1, filled_settled (job_on task).hall _ _ _ task.job.horizon layers l l' a.tables.sought a'.tables.sought (two_planes_kept (job_on task) layers l a.kept.layers_kept) (two_planes_kept (job_on task) layers l' a'.kept.layers_kept))
 
 -- ---- the root
 
-module _ (task : Task) (bytes columns plans layers : List ℕ) where
+module _ (task : Task) (columns plans layers : List ℕ) where
   -- the contract of `make_root`, likewise
   pub record RootAllowed (made : Bool) (columns' plans' layers' : List ℕ) : Type 0 where
-    pub kept : Kept task bytes columns plans layers columns' plans' layers'
-    pub rooted : RootFact (job_on task bytes) task.capacity columns' plans' made
-    pub tables : RootTables task bytes columns plans columns' plans' layers' made
+    pub kept : Kept task columns plans layers columns' plans' layers'
+    pub rooted : RootFact (job_on task) task.capacity columns' plans' made
+    pub tables : RootTables task columns plans columns' plans' layers' made
 
-  same_rooted : (c p c' p' : List ℕ) (r r' : Bool) → RootFact (job_on task bytes) task.capacity c p r → RootFact (job_on task bytes) task.capacity c' p' r' → r ≡ r'
+  same_rooted : (c p c' p' : List ℕ) (r r' : Bool) → RootFact (job_on task) task.capacity c p r → RootFact (job_on task) task.capacity c' p' r' → r ≡ r'
   unfolding RootFact
   same_rooted c p c' p' false false f f' = refl
-  same_rooted c p c' p' false true f f' = absurd (not_none (root (job_on task bytes)) f f'.2)
-  same_rooted c p c' p' true false f f' = absurd (not_none (root (job_on task bytes)) f' f.2)
+  same_rooted c p c' p' false true f f' = absurd (not_none (root (job_on task)) f f'.2)
+  same_rooted c p c' p' true false f f' = absurd (not_none (root (job_on task)) f' f.2)
   same_rooted c p c' p' true true f f' = refl
 
   pub make_root_settled : (r r' : Bool) (c p l c' p' l' : List ℕ) → RootAllowed r c p l → RootAllowed r' c' p' l' → (r ≡ r') × (c ≡ c') × (p ≡ p') × (l ≡ l')
   make_root_settled r r' c p l c' p' l' a a' =
       let answer = same_rooted c p c' p' r r' a.rooted a'.rooted in
       let same : p' ≡ p = a'.tables.routes ∙ sym a.tables.routes in
-      (answer, write_record_settled task.capacity columns 0 0 0 Free (root_sum task p r) c c' a.tables.written (rw (same, sym answer) at a'.tables.written), sym same, filled_settled (job_on task bytes).hall _ _ _ task.horizon layers l l' a.tables.sought a'.tables.sought (two_planes_kept (job_on task bytes) layers l a.kept.layers_kept) (two_planes_kept (job_on task bytes) layers l' a'.kept.layers_kept))
+      (answer, write_record_settled task.capacity columns 0 0 0 Free (root_sum task p r) c c' a.tables.written (rw (same, sym answer) at a'.tables.written), sym same, filled_settled (job_on task).hall _ _ _ task.job.horizon layers l l' a.tables.sought a'.tables.sought (two_planes_kept (job_on task) layers l a.kept.layers_kept) (two_planes_kept (job_on task) layers l' a'.kept.layers_kept))

@@ -30,19 +30,23 @@ row = 46 ∷ 46 ∷ []
 abbrev pub exchange : ℕ → Task
 exchange h =
     record {
-      width = 2;
-      height = 1;
-      horizon = h;
+      job =
+          record {
+            hall = record { ref_ptr = (0, 0); now = row };
+            width = 2;
+            height = 1;
+            team = record { starts = 0 ∷ 1 ∷ 0 ∷ 0 ∷ 0 ∷ 0 ∷ 0 ∷ 0 ∷ []; goals = 1 ∷ 0 ∷ 0 ∷ 0 ∷ 0 ∷ 0 ∷ 0 ∷ 0 ∷ []; slips = 0 ∷ 0 ∷ 0 ∷ 0 ∷ 0 ∷ 0 ∷ 0 ∷ 0 ∷ []; count = 2 };
+            horizon = h;
+          };
       capacity = 2;
-      team = record { starts = 0 ∷ 1 ∷ 0 ∷ 0 ∷ 0 ∷ 0 ∷ 0 ∷ 0 ∷ []; goals = 1 ∷ 0 ∷ 0 ∷ 0 ∷ 0 ∷ 0 ∷ 0 ∷ 0 ∷ []; slips = 0 ∷ 0 ∷ 0 ∷ 0 ∷ 0 ∷ 0 ∷ 0 ∷ 0 ∷ []; count = 2 };
     }
 
 -- ---- the length of a stretch
 
-pub stretch_of_one_step_short : (r : ℕ) → r ≡ (exchange 1).team.count * ((exchange 1).horizon + 1) → r ≡ (exchange 1).team.count * (exchange 1).horizon → ⊥
+pub stretch_of_one_step_short : (r : ℕ) → r ≡ (exchange 1).job.team.count * ((exchange 1).job.horizon + 1) → r ≡ (exchange 1).job.team.count * (exchange 1).job.horizon → ⊥
 stretch_of_one_step_short r e wrong = omega (arith, e, wrong)
 
-pub stretch_of_one_carrier : (r : ℕ) → r ≡ (exchange 1).team.count * ((exchange 1).horizon + 1) → r ≡ (exchange 1).horizon + 1 → ⊥
+pub stretch_of_one_carrier : (r : ℕ) → r ≡ (exchange 1).job.team.count * ((exchange 1).job.horizon + 1) → r ≡ (exchange 1).job.horizon + 1 → ⊥
 stretch_of_one_carrier r e wrong = omega (arith, e, wrong)
 
 -- ---- the sum of a node
@@ -69,11 +73,11 @@ sum_at_last_carrier_left_out r e wrong = omega (arith, e ∙ root_sum_lem, wrong
 -- ---- the root
 
 -- with H 0 no carrier reaches its goal
-no_root : root (job_on (exchange 0) row) ≡ []
+no_root : root (job_on (exchange 0)) ≡ []
 unfolding range only keep any_of each is_open on_grid cell_at landing reach_from reach bars_for bars_cell bars_way may_stand may_turn moved moves outdone preferred better best_of in_front best_way best_route route_under with_route free_routes root_of root
 no_root = refl
 
-pub make_root_without_routes : (columns' plans' : List ℕ) → RootFact (job_on (exchange 0) row) 2 columns' plans' true → ⊥
+pub make_root_without_routes : (columns' plans' : List ℕ) → RootFact (job_on (exchange 0)) 2 columns' plans' true → ⊥
 unfolding RootFact
 make_root_without_routes columns' plans' f = omega (arith, f.2, ap length no_root)
 
@@ -81,16 +85,16 @@ make_root_without_routes columns' plans' f = omega (arith, f.2, ap length no_roo
 abbrev pub sevens : List ℕ
 sevens = 7 ∷ 7 ∷ 7 ∷ 7 ∷ 7 ∷ 7 ∷ 7 ∷ 7 ∷ []
 
-root_routes : root_plans (job_on (exchange 1) row) sevens (free_count (job_on (exchange 1) row)) ≡ 0 ∷ 1 ∷ 1 ∷ 0 ∷ 7 ∷ 7 ∷ 7 ∷ 7 ∷ []
+root_routes : root_plans (job_on (exchange 1)) sevens (free_count (job_on (exchange 1))) ≡ 0 ∷ 1 ∷ 1 ∷ 0 ∷ 7 ∷ 7 ∷ 7 ∷ 7 ∷ []
 unfolding range only keep any_of each is_open on_grid cell_at landing reach_from reach step_cost cost bars_for bars_cell bars_way may_stand may_turn moved moves outdone preferred better best_of in_front best_way best_route route_under put_route root_plans one_more_than free_from
 root_routes = refl
 
-pub make_root_plans_untouched : (columns columns' plans' layers' : List ℕ) (made : Bool) → RootTables (exchange 1) row columns sevens columns' plans' layers' made → plans' ≡ sevens → ⊥
+pub make_root_plans_untouched : (columns columns' plans' layers' : List ℕ) (made : Bool) → RootTables (exchange 1) columns sevens columns' plans' layers' made → plans' ≡ sevens → ⊥
 make_root_plans_untouched columns columns' plans' layers' made tables wrong =
     let z : ◌≡◌ {A = ℕ} 7 0 = ap (λ (l : List ℕ). get_or l 0 9) (sym wrong ∙ tables.routes ∙ root_routes) in
     omega arith
 
-pub make_root_sum_left_at_zero : (columns columns' plans' layers' : List ℕ) → RootTables (exchange 1) row columns sevens columns' plans' layers' true → sum_at 2 columns' 0 ≡ 0 → ⊥
+pub make_root_sum_left_at_zero : (columns columns' plans' layers' : List ℕ) → RootTables (exchange 1) columns sevens columns' plans' layers' true → sum_at 2 columns' 0 ≡ 0 → ⊥
 unfolding root_sum sum_in sum_to route_in cost step_cost
 make_root_sum_left_at_zero columns columns' plans' layers' tables wrong =
     let two : sum_in (exchange 1) plans' 0 ≡ 2 = ap (λ (l : List ℕ). sum_in (exchange 1) l 0) (tables.routes ∙ root_routes) in
@@ -104,11 +108,15 @@ square = 46 ∷ 46 ∷ 46 ∷ 46 ∷ []
 abbrev pub turning : Task
 turning =
     record {
-      width = 2;
-      height = 2;
-      horizon = 2;
+      job =
+          record {
+            hall = record { ref_ptr = (0, 0); now = square };
+            width = 2;
+            height = 2;
+            team = record { starts = 0 ∷ 1 ∷ 0 ∷ 0 ∷ 0 ∷ 0 ∷ 0 ∷ 0 ∷ []; goals = 1 ∷ 0 ∷ 0 ∷ 0 ∷ 0 ∷ 0 ∷ 0 ∷ 0 ∷ []; slips = 0 ∷ 0 ∷ 0 ∷ 0 ∷ 0 ∷ 0 ∷ 0 ∷ 0 ∷ []; count = 2 };
+            horizon = 2;
+          };
       capacity = 4;
-      team = record { starts = 0 ∷ 1 ∷ 0 ∷ 0 ∷ 0 ∷ 0 ∷ 0 ∷ 0 ∷ []; goals = 1 ∷ 0 ∷ 0 ∷ 0 ∷ 0 ∷ 0 ∷ 0 ∷ 0 ∷ []; slips = 0 ∷ 0 ∷ 0 ∷ 0 ∷ 0 ∷ 0 ∷ 0 ∷ 0 ∷ []; count = 2 };
     }
 
 -- the root, and its two children, each of which bars one carrier from its crossing at step 0
@@ -126,19 +134,19 @@ grown_plans =
 
 -- the plans with the child of node 2 whose carrier 0 may not be on cell 1 at step 1
 abbrev pub child_of_two : List ℕ
-child_of_two = put_route (job_on turning square) (copied_plans (job_on turning square) grown_plans 2 3) 3 0 (route_on turning square grown_columns 2 0 (Stay 1 1 1))
+child_of_two = put_route (job_on turning) (copied_plans (job_on turning) grown_plans 2 3) 3 0 (route_on turning grown_columns 2 0 (Stay 1 1 1))
 
 child_routes : take 6 (drop 18 child_of_two) ≡ 0 ∷ 0 ∷ 1 ∷ 1 ∷ 1 ∷ 0 ∷ []
 unfolding range only keep any_of each is_open on_grid cell_at landing reach_from reach step_cost cost bars_for bars_cell bars_way may_stand may_turn moved moves outdone preferred better best_of in_front best_way best_route bound_by chain_of chains own_bars is_bar bar_at bar_from put_route
 child_routes = refl
 
 -- 9 one record early: a fourth record is free
-pub add_child_full_early : (columns' plans' : List ℕ) → ChildFact (job_on turning square) 4 2 (record { carrier = 0; bar = Stay 1 1 1 }) 3 grown_columns grown_plans columns' plans' Full → ⊥
+pub add_child_full_early : (columns' plans' : List ℕ) → ChildFact (job_on turning) 4 2 (record { carrier = 0; bar = Stay 1 1 1 }) 3 grown_columns grown_plans columns' plans' Full → ⊥
 unfolding ChildFact
 add_child_full_early columns' plans' f = let z : ◌≡◌ {A = ℕ} 3 4 = f.0 in omega arith
 
 -- the routes of the root for those of the parent: carrier 1 goes to its goal at once
-pub add_child_from_the_root : (columns' plans' layers' : List ℕ) → ChildTables turning square 2 (record { carrier = 0; bar = Stay 1 1 1 }) 3 grown_columns grown_plans columns' plans' layers' Made
+pub add_child_from_the_root : (columns' plans' layers' : List ℕ) → ChildTables turning 2 (record { carrier = 0; bar = Stay 1 1 1 }) 3 grown_columns grown_plans columns' plans' layers' Made
     → take 6 (drop 18 plans') ≡ 0 ∷ 0 ∷ 1 ∷ 1 ∷ 0 ∷ 0 ∷ [] → ⊥
 unfolding ChildWritten
 add_child_from_the_root columns' plans' layers' tables wrong =
@@ -151,11 +159,15 @@ add_child_from_the_root columns' plans' layers' tables wrong =
 abbrev pub standing : Task
 standing =
     record {
-      width = 2;
-      height = 2;
-      horizon = 3;
+      job =
+          record {
+            hall = record { ref_ptr = (0, 0); now = square };
+            width = 2;
+            height = 2;
+            team = record { starts = 3 ∷ 0 ∷ 0 ∷ 0 ∷ 0 ∷ 0 ∷ 0 ∷ 0 ∷ []; goals = 2 ∷ 0 ∷ 0 ∷ 0 ∷ 0 ∷ 0 ∷ 0 ∷ 0 ∷ []; slips = 0 ∷ 0 ∷ 0 ∷ 0 ∷ 0 ∷ 0 ∷ 0 ∷ 0 ∷ []; count = 1 };
+            horizon = 3;
+          };
       capacity = 2;
-      team = record { starts = 3 ∷ 0 ∷ 0 ∷ 0 ∷ 0 ∷ 0 ∷ 0 ∷ 0 ∷ []; goals = 2 ∷ 0 ∷ 0 ∷ 0 ∷ 0 ∷ 0 ∷ 0 ∷ 0 ∷ []; slips = 0 ∷ 0 ∷ 0 ∷ 0 ∷ 0 ∷ 0 ∷ 0 ∷ 0 ∷ []; count = 1 };
     }
 
 -- the root alone: its sum is 1, and it is open
@@ -165,14 +177,14 @@ root_columns = 0 ∷ 0 ∷ 0 ∷ 0 ∷ 0 ∷ 0 ∷ 0 ∷ 0 ∷ 0 ∷ 0 ∷ 0 ∷
 abbrev pub root_only : List ℕ
 root_only = 3 ∷ 2 ∷ 2 ∷ 2 ∷ 0 ∷ 0 ∷ 0 ∷ 0 ∷ []
 
-standing_route : route_on standing square root_columns 0 0 (Stay 2 1 2) ≡ some (3 ∷ 3 ∷ 3 ∷ 2 ∷ [])
+standing_route : route_on standing root_columns 0 0 (Stay 2 1 2) ≡ some (3 ∷ 3 ∷ 3 ∷ 2 ∷ [])
 unfolding range only keep any_of each is_open on_grid cell_at landing reach_from reach step_cost cost bars_for bars_cell bars_way may_stand may_turn moved moves outdone preferred better best_of in_front best_way best_route bound_by chain_of chains own_bars is_bar bar_at bar_from
 standing_route = refl
 
 -- a way round through the other cells, which costs as much and comes first in the dictionary
-pub add_child_wandering : (columns' plans' layers' : List ℕ) → ChildTables standing square 0 (record { carrier = 0; bar = Stay 2 1 2 }) 1 root_columns root_only columns' plans' layers' Made → take 4 (drop 4 plans') ≡ 3 ∷ 1 ∷ 0 ∷ 2 ∷ [] → ⊥
+pub add_child_wandering : (columns' plans' layers' : List ℕ) → ChildTables standing 0 (record { carrier = 0; bar = Stay 2 1 2 }) 1 root_columns root_only columns' plans' layers' Made → take 4 (drop 4 plans') ≡ 3 ∷ 1 ∷ 0 ∷ 2 ∷ [] → ⊥
 unfolding ChildWritten put_route
 add_child_wandering columns' plans' layers' tables wrong =
-    let e : plans' ≡ put_route (job_on standing square) (copied_plans (job_on standing square) root_only 0 1) 1 0 (some (3 ∷ 3 ∷ 3 ∷ 2 ∷ [])) = tables.written.0 ∙ ap (put_route (job_on standing square) (copied_plans (job_on standing square) root_only 0 1) 1 0) standing_route in
+    let e : plans' ≡ put_route (job_on standing) (copied_plans (job_on standing) root_only 0 1) 1 0 (some (3 ∷ 3 ∷ 3 ∷ 2 ∷ [])) = tables.written.0 ∙ ap (put_route (job_on standing) (copied_plans (job_on standing) root_only 0 1) 1 0) standing_route in
     let z : ◌≡◌ {A = ℕ} 1 3 = ap (λ (l : List ℕ). get_or l 1 9) (sym wrong ∙ ap (λ (l : List ℕ). take 4 (drop 4 l)) e) in
     omega arith

@@ -3,7 +3,7 @@
 use Rattle.std.specs.Prelude.{ℕ, ◌+◌, ◌*◌, ◌≤◌, ◌<◌, ◌≡◌, Bool, true, false, List, [], ◌++◌, length, get_or}
 use Rattle.lent.specs.Lent.{SameFrom}
 use Rattle.job.specs.Job.{Job}
-use Rattle.job.specs.Team.{job_of}
+use Rattle.job.specs.Team.{lent_job}
 use Rattle.routes.specs.Bars.{Barred}
 use Rattle.routes.specs.declared.Bar.{Bar}
 use Rattle.records.specs.Columns.{is_bar}
@@ -12,39 +12,44 @@ use Rattle.tables.specs.Post.{BarFits}
 use Rattle.tables.specs.State.{node_at, live, Sound}
 use Rattle.tables.specs.Tables.{columns_length, plans_length, layers_length}
 use Rattle.children.specs.declared.Task.{Task}
+use Rattle.children.specs.declared.Barred.{Barred as NewBar}
 use Rattle.children.specs.declared.Grown.{Grown}
 use Rattle.children.specs.declared.Grown.TheVariants.{Nothing, Made, Full}
 
--- the job of a task over a hall's bytes
-abbrev pub job_on : Task → List ℕ → Job
-job_on task bytes = job_of task.width task.height bytes task.team task.horizon
+-- the job of a task
+abbrev pub job_on : Task → Job
+job_on task = lent_job task.job
 
 -- what checks 1 to 7 have shown
-pub record Ready (task : Task) (bytes layers : List ℕ) : Type 0 where
-  pub width_least : 1 ≤ task.width
-  pub width_most : task.width ≤ 16
-  pub height_least : 1 ≤ task.height
-  pub height_most : task.height ≤ 16
-  pub bytes_long : length bytes ≡ task.width * task.height
-  pub horizon_most : task.horizon ≤ 63
-  pub count_least : 1 ≤ task.team.count
-  pub count_most : task.team.count ≤ 8
+pub record Ready (task : Task) (layers : List ℕ) : Type 0 where
+  pub width_least : 1 ≤ task.job.width
+  pub width_most : task.job.width ≤ 16
+  pub height_least : 1 ≤ task.job.height
+  pub height_most : task.job.height ≤ 16
+  pub bytes_long : length task.job.hall.now ≡ task.job.width * task.job.height
+  pub horizon_most : task.job.horizon ≤ 63
+  pub count_least : 1 ≤ task.job.team.count
+  pub count_most : task.job.team.count ≤ 8
   pub capacity_least : 1 ≤ task.capacity
   pub capacity_most : task.capacity ≤ 1024
-  pub slips_most : (i : ℕ) → i < task.team.count → get_or task.team.slips i 0 ≤ 4
-  pub starts_inside : (i : ℕ) → i < task.team.count → get_or task.team.starts i 0 < task.width * task.height
-  pub goals_inside : (i : ℕ) → i < task.team.count → get_or task.team.goals i 0 < task.width * task.height
-  pub layers_long : layers_length (job_on task bytes) ≤ length layers
+  pub slips_most : (i : ℕ) → i < task.job.team.count → get_or task.job.team.slips i 0 ≤ 4
+  pub starts_inside : (i : ℕ) → i < task.job.team.count → get_or task.job.team.starts i 0 < task.job.width * task.job.height
+  pub goals_inside : (i : ℕ) → i < task.job.team.count → get_or task.job.team.goals i 0 < task.job.width * task.job.height
+  pub layers_long : layers_length (job_on task) ≤ length layers
 
 -- what no step touches: the lengths of the tables and what lies past their least lengths
-pub record Kept (task : Task) (bytes columns plans layers columns' plans' layers' : List ℕ) : Type 0 where
+pub record Kept (task : Task) (columns plans layers columns' plans' layers' : List ℕ) : Type 0 where
   pub columns_kept : SameFrom (columns_length task.capacity) columns columns'
-  pub plans_kept : SameFrom (plans_length (job_on task bytes) task.capacity) plans plans'
-  pub layers_kept : SameFrom (layers_length (job_on task bytes)) layers layers'
+  pub plans_kept : SameFrom (plans_length (job_on task) task.capacity) plans plans'
+  pub layers_kept : SameFrom (layers_length (job_on task)) layers layers'
 
 -- a bar of rule 6, whose numbers fit a record
 abbrev pub BarSet : Bar → Type 0
 BarSet bar = BarFits bar × (is_bar bar ≡ true)
+
+-- the new bar of a child, as the tree has it
+abbrev pub barred_of : NewBar → Barred
+barred_of b = record { carrier = b.carrier; bar = b.bar }
 
 -- one child of node x with bar b, after rule 7
 unfoldable pub ChildFact : Job → ℕ → ℕ → Barred → ℕ → List ℕ → List ℕ → List ℕ → List ℕ → Grown → Type 0

@@ -22,17 +22,17 @@ use Rattle.children.specs.Steps.{job_on}
 -- ---- one route
 
 -- the best route of a carrier at a node, with one new bar in front of those that bind it there
-abbrev pub route_on : Task → List ℕ → List ℕ → ℕ → ℕ → Bar → Option (List ℕ)
-route_on task bytes columns node carrier bar = best_route (job_on task bytes) carrier (bound_by task.capacity columns node carrier bar)
+abbrev pub route_on : Task → List ℕ → ℕ → ℕ → Bar → Option (List ℕ)
+route_on task columns node carrier bar = best_route (job_on task) carrier (bound_by task.capacity columns node carrier bar)
 
 -- the layers hold what is wanted to read it off
-abbrev pub SoughtIn : Task → List ℕ → List ℕ → ℕ → ℕ → Bar → List ℕ → Type 0
-SoughtIn task bytes columns node carrier bar layers =
-    Filled (job_on task bytes).hall (bound_by task.capacity columns node carrier bar) (get_or task.team.starts carrier 0) (get_or task.team.goals carrier 0) task.horizon layers
+abbrev pub SoughtIn : Task → List ℕ → ℕ → ℕ → Bar → List ℕ → Type 0
+SoughtIn task columns node carrier bar layers =
+    Filled (job_on task).hall (bound_by task.capacity columns node carrier bar) (get_or task.job.team.starts carrier 0) (get_or task.job.team.goals carrier 0) task.job.horizon layers
 
 -- the same for its route without bars
-abbrev pub SoughtFree : Task → List ℕ → ℕ → List ℕ → Type 0
-SoughtFree task bytes carrier layers = Filled (job_on task bytes).hall [] (get_or task.team.starts carrier 0) (get_or task.team.goals carrier 0) task.horizon layers
+abbrev pub SoughtFree : Task → ℕ → List ℕ → Type 0
+SoughtFree task carrier layers = Filled (job_on task).hall [] (get_or task.job.team.starts carrier 0) (get_or task.job.team.goals carrier 0) task.job.horizon layers
 
 unfoldable pub is_found : Option (List ℕ) → Bool
 is_found none = false
@@ -48,8 +48,8 @@ put_route job plans x i (some r) =
 -- the total of the costs of the routes in the stretch of node x
 unfoldable pub sum_in : Task → List ℕ → ℕ → ℕ
 sum_in task plans x =
-    sum_to task.team.count
-    (λ i. cost (get_or task.team.goals i 0) (route_in task.horizon (take (task.team.count * (task.horizon + 1)) (drop (x * (task.team.count * (task.horizon + 1))) plans)) i))
+    sum_to task.job.team.count
+    (λ i. cost (get_or task.job.team.goals i 0) (route_in task.job.horizon (take (task.job.team.count * (task.job.horizon + 1)) (drop (x * (task.job.team.count * (task.job.horizon + 1))) plans)) i))
 
 -- ---- a child
 
@@ -58,17 +58,17 @@ abbrev pub copied_plans : Job → List ℕ → ℕ → ℕ → List ℕ
 copied_plans job plans x made = paste plans (made * plan_length job) (take (plan_length job) (drop (x * plan_length job) plans)) (plan_length job)
 
 -- a child that is made has its parent's routes, but for the barred carrier's, and its record; otherwise nothing is written
-unfoldable pub ChildWritten : Task → List ℕ → ℕ → Barred → ℕ → List ℕ → List ℕ → List ℕ → List ℕ → Grown → Type 0
-ChildWritten task bytes x b made columns plans columns' plans' Nothing = (columns' ≡ columns) × (plans' ≡ plans)
-ChildWritten task bytes x b made columns plans columns' plans' Full = (columns' ≡ columns) × (plans' ≡ plans)
-ChildWritten task bytes x b made columns plans columns' plans' Made =
-    (plans' ≡ put_route (job_on task bytes) (copied_plans (job_on task bytes) plans x made) made b.carrier (route_on task bytes columns x b.carrier b.bar))
+unfoldable pub ChildWritten : Task → ℕ → Barred → ℕ → List ℕ → List ℕ → List ℕ → List ℕ → Grown → Type 0
+ChildWritten task x b made columns plans columns' plans' Nothing = (columns' ≡ columns) × (plans' ≡ plans)
+ChildWritten task x b made columns plans columns' plans' Full = (columns' ≡ columns) × (plans' ≡ plans)
+ChildWritten task x b made columns plans columns' plans' Made =
+    (plans' ≡ put_route (job_on task) (copied_plans (job_on task) plans x made) made b.carrier (route_on task columns x b.carrier b.bar))
     × Recorded task.capacity columns made x b.carrier b.bar (sum_in task plans' made) columns'
 
 -- one child of node x with bar b: its route was sought, whatever became of it
-pub record ChildTables (task : Task) (bytes : List ℕ) (x : ℕ) (b : Barred) (made : ℕ) (columns plans columns' plans' layers' : List ℕ) (grown : Grown) : Type 0 where
-  pub sought : SoughtIn task bytes columns x b.carrier b.bar layers'
-  pub written : ChildWritten task bytes x b made columns plans columns' plans' grown
+pub record ChildTables (task : Task) (x : ℕ) (b : Barred) (made : ℕ) (columns plans columns' plans' layers' : List ℕ) (grown : Grown) : Type 0 where
+  pub sought : SoughtIn task columns x b.carrier b.bar layers'
+  pub written : ChildWritten task x b made columns plans columns' plans' grown
 
 -- ---- the root
 
@@ -100,7 +100,7 @@ root_sum task plans' false = 0
 root_sum task plans' true = sum_in task plans' 0
 
 -- the root, made or not: its record is written in any case, and the routes up to the first carrier that has none
-pub record RootTables (task : Task) (bytes columns plans columns' plans' layers' : List ℕ) (made : Bool) : Type 0 where
-  pub sought : SoughtFree task bytes (last_sought (job_on task bytes)) layers'
-  pub routes : plans' ≡ root_plans (job_on task bytes) plans (free_count (job_on task bytes))
+pub record RootTables (task : Task) (columns plans columns' plans' layers' : List ℕ) (made : Bool) : Type 0 where
+  pub sought : SoughtFree task (last_sought (job_on task)) layers'
+  pub routes : plans' ≡ root_plans (job_on task) plans (free_count (job_on task))
   pub written : Recorded task.capacity columns 0 0 0 Free (root_sum task plans' made) columns'

@@ -1,12 +1,9 @@
--- What the code compares, as the tests of rule 5: of two tests that tell the same facts each passes where the other does;
--- and the byte of each carrier and step stands in a whole plan.
+-- What the code compares, as the tests of rule 5: of two tests that tell the same facts each passes where the other does.
 -- Assumes nothing.
-use Prim.Native.Nat.{ℕ, ◌+◌, ◌*◌, ◌≤◌, ◌<◌}
+use Prim.Native.Nat.{ℕ, ◌+◌, ◌≤◌, ◌<◌}
 use mathlib.Core.Path.{◌≡◌, sym}
 use mathlib.Core.Logic.{◌⊎◌, inl, inr}
 use mathlib.Core.Bool.{false, not}
-use mathlib.Core.List.{List}
-use native.Mathlib.Nat.{mul-le-mul_right, suc-mul}
 use native.Mathlib.Omega.{arith}
 use native.Mathlib.Decide.{ℕ_discrete}
 use lib.Dec.{eqb, eqb→eq, T_not, not_T}
@@ -14,7 +11,7 @@ use borrow.Author.Tests.{eq-eqb, ne_eqb}
 use Rattle.lists.proofs.Tests.{is_false, of_true, same_test}
 use Rattle.clashes.specs.Clash.{Travel}
 use Rattle.clashes.specs.Chosen.{meets, swaps}
-use Rattle.clashes.specs.Find.{first_other, Whole, Within}
+use Rattle.clashes.specs.Find.{first_other}
 use Rattle.clashes.proofs.Tests.{meets_tells, tells_meets, swaps_tells, tells_swaps}
 
 module _ (v : Travel) (i j t : ℕ) where
@@ -60,10 +57,3 @@ other_later i d later = rw (ne_eqb d 0 later, first_other)
 
 pub other_within : (i d m : ℕ) → i < m → first_other i d ≤ m
 other_within i d m less = elim (ℕ_discrete d 0) [ yes z ↦ omega (arith, other_now i d z) | no later ↦ omega (arith, other_later i d later) ]
-
--- ---- bytes
-
-pub whole_within : (plan slips : List ℕ) (count h : ℕ) → Whole plan slips count h → (i t : ℕ) → i < count → t ≤ h → Within plan h i t
-whole_within plan slips count h w i t less step =
-    let rows : i * (h + 1) + (h + 1) ≤ count * (h + 1) = rw (← suc-mul i (h + 1)) (mul-le-mul_right (h + 1) (omega arith)) in
-    record { short = w.short; step = step; byte = omega arith }

@@ -31,12 +31,6 @@ pub record Whole (plan slips : List ℕ) (count h : ℕ) : Type 0 where
   pub short : h ≤ most_horizon
   pub whole : count * (h + 1) ≤ length plan
 
--- carrier i has a step t, and the plan has its byte
-pub record Within (plan : List ℕ) (h i t : ℕ) : Type 0 where
-  pub short : h ≤ most_horizon
-  pub step : t ≤ h
-  pub byte : i * (h + 1) + t < length plan
-
 -- 'among swaps least i, then least j, with i < j': the first of the swaps at t, or none of them happens
 unfoldable pub FirstSwap : Travel → ℕ → ℕ → Clash → Type 0
 FirstSwap v m t Clear = (i j : ℕ) → i < m → j < m → T (swaps v i j t) → ⊥

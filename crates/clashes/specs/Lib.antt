@@ -4,3 +4,4 @@ pub mod Clash
 pub mod Find
 pub mod First
 pub mod Holds
+pub mod Routes

@@ -6,13 +6,11 @@ use mathlib.Core.List.{List}
 use Rattle.job.specs.Job.{Job}
 use Rattle.job.specs.Team.{job_of}
 use Rattle.tables.specs.Tables.{Tables}
-use Rattle.routes.specs.Check.{route_verdict}
-use Rattle.routes.specs.declared.RouteVerdict.{RouteVerdict}
-use Rattle.clashes.specs.Check.{meeting_verdict}
-use Rattle.clashes.specs.declared.MeetingVerdict.{MeetingVerdict}
+use Rattle.routes.specs.Check.{RouteVerdict, route_verdict}
+use Rattle.clashes.specs.Check.{MeetingVerdict, meeting_verdict}
 use Rattle.checks.proofs.Settled.{check_routes_settled, check_meetings_settled}
+use Rattle.planner.specs.Answer.{Answer}
 use Rattle.planner.specs.Post.{Planned}
-use Rattle.planner.specs.declared.Answer.{Answer}
 use Rattle.planner.proofs.Settled.{plan_settled}
 use Rattle.carriers.specs.Lent.{records_team}
 use Rattle.carriers.specs.declared.Carrier.{Carrier}

@@ -15,16 +15,13 @@ use Rattle.job.specs.Verdict.{carrier_verdict, shared_verdict, judge_with, judge
 use Rattle.job.specs.Told.{counted}
 use Rattle.job.specs.declared.Told.{Told}
 use Rattle.tables.specs.Tables.{Tables}
-use Rattle.routes.specs.Check.{wrong_move, wrong_arrival, wrong_at, places, first_wrong_place, place_verdict, plan_verdict, route_verdict, route_told}
-use Rattle.routes.specs.declared.RouteVerdict.{RouteVerdict}
+use Rattle.routes.specs.Check.{RouteVerdict, wrong_move, wrong_arrival, wrong_at, places, first_wrong_place, place_verdict, plan_verdict, route_verdict, route_told}
 use Rattle.clashes.specs.Chosen.{written, meets, swaps, happens, over_pairs, at_step, candidates, or_clear, chosen}
-use Rattle.clashes.specs.Check.{plan_clash, compared, meeting_verdict, meeting_told}
-use Rattle.clashes.specs.declared.MeetingVerdict.{MeetingVerdict}
+use Rattle.clashes.specs.Check.{MeetingVerdict, plan_clash, compared, meeting_verdict, meeting_told}
 use Rattle.checks.proofs.Broken.{followed, astray, standing, always_passes_routes, never_passes_routes, always_passes_meetings, never_passes_meetings}
-use Rattle.planner.specs.Answer.{planned, answer_told}
+use Rattle.planner.specs.Answer.{Answer, planned, answer_told}
 use Rattle.planner.specs.Post.{Planned}
 use Rattle.planner.specs.Stars.{Star, star_job, star_tables, Seen, asked, given, stars}
-use Rattle.planner.specs.declared.Answer.{Answer}
 use Rattle.planner.proofs.Stars.{stars_hold}
 use Rattle.carriers.specs.Lent.{records_team}
 use Rattle.carriers.specs.declared.Carrier.{Carrier}

@@ -13,9 +13,9 @@ use Rattle.lists.proofs.Passing.{first_same}
 use Rattle.lists.proofs.Tests.{or_fails}
 use Rattle.hall.specs.Hall.{wrong_grid, wrong_bytes, is_open}
 use Rattle.job.specs.Job.{wrong_limits, wrong_count, wrong_carrier, first_wrong, first_shared}
-use Rattle.job.specs.Verdict.{verdict_told, carrier_verdict, shared_verdict, judge_with}
-use Rattle.job.specs.declared.Verdict.{Verdict}
-use Rattle.job.specs.declared.Verdict.TheVariants.{Accepted, WrongGrid, WrongBytes, WrongLimits, WrongCount, SharedStart, SharedGoal}
+use Rattle.std.specs.Prelude.{Ok, Err}
+use Rattle.job.specs.Verdict.{Verdict, verdict_told, carrier_verdict, shared_verdict, judge_with}
+use Rattle.job.specs.declared.Refusal.TheVariants.{WrongGrid, WrongBytes, WrongLimits, WrongCount, SharedStart, SharedGoal}
 use Rattle.equal_slips.specs.Job.{OneJob, with_slips, EverySlip, slipless, wrong_limits_by_k, wrong_ends, first_wrong_by_k, judge_by_k}
 
 or_nothing : (a b c : Bool) → c ≡ false → (a || b || c) ≡ (a || b)
@@ -44,19 +44,19 @@ module _ (one : OneJob) (slipOf : ℕ → ℕ) (equal : EverySlip one slipOf) (m
   unfolding judge_with judge_by_k wrong_count
   judged_same wrongN =
       ap₂ (λ (limits : Bool) (first : Option ℕ).
-      refuse_if (wrong_grid one.hall) WrongGrid
-      (refuse_if (wrong_bytes one.hall) WrongBytes
-      (refuse_if limits WrongLimits
-      (refuse_if (wrong_count (slipless one)) WrongCount
+      refuse_if (wrong_grid one.hall) (Err WrongGrid)
+      (refuse_if (wrong_bytes one.hall) (Err WrongBytes)
+      (refuse_if limits (Err WrongLimits)
+      (refuse_if (wrong_count (slipless one)) (Err WrongCount)
       (carrier_verdict first
       (shared_verdict (λ i j. SharedStart i j) (first_shared one.start_of one.count)
-      (shared_verdict (λ i j. SharedGoal i j) (first_shared one.goal_of one.count) Accepted)))))))
+      (shared_verdict (λ i j. SharedGoal i j) (first_shared one.goal_of one.count) (Ok tt))))))))
       (limits_same wrongN) first_wrong_same
 
 -- ---- what is accepted
 
 -- a check that has passed, and the rest
-passed : (b : Bool) (refusal rest : Verdict) → ((verdict_told refusal).number ≡ 0 → ⊥) → refuse_if b refusal rest ≡ Accepted → (b ≡ false) × (rest ≡ Accepted)
+passed : (b : Bool) (refusal rest : Verdict) → ((verdict_told refusal).number ≡ 0 → ⊥) → refuse_if b refusal rest ≡ Ok tt → (b ≡ false) × (rest ≡ Ok tt)
 unfolding refuse_if
 passed true refusal rest other e = absurd (other (ap (λ (v : Verdict). (verdict_told v).number) e))
 passed false refusal rest other e = (refl, e)
@@ -65,13 +65,13 @@ pub record Small (one : OneJob) : Type 0 where
   pub delay : one.delay ≤ 4
   pub count : one.count ≤ 8
 
-pub accepted_small : (one : OneJob) (wrongN : Bool) → judge_by_k wrongN one ≡ Accepted → Small one
+pub accepted_small : (one : OneJob) (wrongN : Bool) → judge_by_k wrongN one ≡ Ok tt → Small one
 unfolding judge_by_k wrong_limits_by_k wrong_count
 accepted_small one wrongN accepted =
-    let (_, bytes) = passed (wrong_grid one.hall) WrongGrid _ (λ z. omega arith) accepted in
-    let (_, limits) = passed (wrong_bytes one.hall) WrongBytes _ (λ z. omega arith) bytes in
-    let (right, count) = passed (wrong_limits_by_k one || wrongN) WrongLimits _ (λ z. omega arith) limits in
-    let (few, _) = passed (wrong_count (slipless one)) WrongCount _ (λ z. omega arith) count in
+    let (_, bytes) = passed (wrong_grid one.hall) (Err WrongGrid) _ (λ z. omega arith) accepted in
+    let (_, limits) = passed (wrong_bytes one.hall) (Err WrongBytes) _ (λ z. omega arith) bytes in
+    let (right, count) = passed (wrong_limits_by_k one || wrongN) (Err WrongLimits) _ (λ z. omega arith) limits in
+    let (few, _) = passed (wrong_count (slipless one)) (Err WrongCount) _ (λ z. omega arith) count in
     let (known, _) = or_fails (wrong_limits_by_k one) wrongN right in
     let (low, _) = or_fails (ltb 4 one.delay) (ltb 63 one.horizon) known in
     let (_, at_most) = or_fails (eqb one.count 0) (ltb 8 one.count) few in

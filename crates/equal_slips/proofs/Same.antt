@@ -4,14 +4,14 @@ use Prim.Native.Nat.{ℕ, ◌≤◌}
 use mathlib.Core.Path.{◌≡◌, refl, ap, ap₂, ◌∙◌}
 use mathlib.Core.Option.{Option, none, some}
 use Rattle.job.specs.Job.{wrong_capacity}
-use Rattle.job.specs.Verdict.{if_accepted}
-use Rattle.job.specs.declared.Verdict.{Verdict}
+use Rattle.std.specs.Prelude.{Err}
+use Rattle.job.specs.Verdict.{Verdict, if_accepted}
 use Rattle.search.specs.Search.{Outcome, done, full}
 use Rattle.tree.specs.Plan.{total}
 use Rattle.tree.specs.Tree.{Node, node_sum}
 use Rattle.tables.specs.Tables.{Tables, first_short, worked_on, plan_written, with_plan}
 use Rattle.planner.specs.Answer.{Result, searched, if_long, enough, planned}
-use Rattle.planner.specs.declared.Answer.TheVariants.{Refused}
+use Rattle.planner.specs.declared.answer.Denial.TheVariants.{Job as OfJob}
 use Rattle.carriers.specs.Lent.{bytes_team, records_team}
 use Rattle.equal_slips.specs.Job.{OneJob, with_slips, EverySlip, one_job_of}
 use Rattle.equal_slips.specs.Answer.{searched_by_k, if_long_by_k, enough_by_k, planned_by_k}
@@ -43,7 +43,7 @@ module _ (one : OneJob) (slipOf : ℕ → ℕ) (n : ℕ) (ts : Tables) where
     planned_same : one.delay ≤ 4 → planned (with_slips one slipOf) n ts ≡ planned_by_k one n ts
     unfolding planned planned_by_k
     planned_same most =
-        ap₂ (λ (v : Verdict) (on : Result). if_accepted v on (record { answer = Refused v; tables = ts }))
+        ap₂ (λ (v : Verdict) (on : Result). if_accepted v on (λ r. record { answer = Err (OfJob r); tables = ts }))
         (judged_same one slipOf equal most (wrong_capacity n)) enough_same
 
 pub small_keeps : SmallKeeps

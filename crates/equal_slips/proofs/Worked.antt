@@ -5,6 +5,7 @@ use mathlib.Core.Path.{◌≡◌, refl}
 use mathlib.Core.Bool.{false}
 use mathlib.Core.List.{List, [], ◌∷◌}
 use lib.ListN.{length, get_or, replicate}
+use Rattle.std.specs.Prelude.{Ok, Err, None}
 use Rattle.lists.specs.Lists.{range, sum_to, only, keep, any_of, first_of, each, refuse_if}
 use Rattle.lent.specs.Lent.{zeroed}
 use Rattle.hall.specs.Hall.{wrong_side, wrong_grid, wrong_byte, wrong_bytes, is_open}
@@ -15,16 +16,13 @@ use Rattle.routes.specs.Route.{step_cost, cost}
 use Rattle.routes.specs.Bars.{bars_for, bars_cell, bars_way, may_stand, may_turn}
 use Rattle.routes.specs.Best.{moved, moves, outdone, preferred, better, best_of, in_front, best_way, best_route}
 use Rattle.routes.specs.Check.{wrong_move, wrong_arrival, wrong_at, places, first_wrong_place, place_verdict}
-use Rattle.routes.specs.declared.RouteVerdict.TheVariants.{Lawful}
 use Rattle.clashes.specs.declared.Clash.TheVariants.{Swap}
-use Rattle.clashes.specs.declared.MeetingVerdict.TheVariants.{Compared}
 use Rattle.search.specs.Search.{prefer, take_least, run, search}
 use Rattle.tree.specs.Plan.{total}
 use Rattle.tree.specs.Tree.{route_under, with_route, free_routes, root_of, root, node_sum, is_clear, child_with, child}
 use Rattle.tables.specs.Tables.{Tables, columns_length, plans_length, layers_length, first_short, worked_on, plan_written, with_plan}
-use Rattle.planner.specs.Answer.{Result}
-use Rattle.planner.specs.declared.Answer.{Answer}
-use Rattle.planner.specs.declared.Answer.TheVariants.{Plan, NoPlan}
+use Rattle.planner.specs.Answer.{Answer, Result}
+use Rattle.planner.specs.declared.answer.Denial.TheVariants.{NoPlan}
 use Rattle.equal_slips.specs.Job.{OneJob, with_slips, slipless, wrong_limits_by_k, wrong_ends, first_wrong_by_k, judge_by_k}
 use Rattle.equal_slips.specs.Clash.{written_by_k, meets_by_k, swaps_by_k, happens_by_k, pairs_by_k, step_by_k, candidates_by_k, or_clear_by_k, chosen_by_k}
 use Rattle.equal_slips.specs.Tree.{clash_by_k, clear_by_k, stay_by_k, cross_by_k, kids_for_by_k, kids_by_k, tree_by_k}
@@ -70,12 +68,12 @@ given one n = let r : Result = planned_by_k one n (tables_for one n) in record {
 
 -- N 3: '3 3 3 4 5 and 1 4 7 7 7, sum 6, 3 records'; 'answer 8, 1 record'
 pub stars_by_k : (given crossing 3 ∷ given exchange 128 ∷ [])
-    ≡ (record { answer = Plan 6 3; output = 3 ∷ 3 ∷ 3 ∷ 4 ∷ 5 ∷ 1 ∷ 4 ∷ 7 ∷ 7 ∷ 7 ∷ [] } ∷ record { answer = NoPlan 1; output = 0 ∷ 0 ∷ 0 ∷ 0 ∷ [] } ∷ [])
+    ≡ (record { answer = Ok (record { sum = 6; records = 3 }); output = 3 ∷ 3 ∷ 3 ∷ 4 ∷ 5 ∷ 1 ∷ 4 ∷ 7 ∷ 7 ∷ 7 ∷ [] } ∷ record { answer = Err (NoPlan 1); output = 0 ∷ 0 ∷ 0 ∷ 0 ∷ [] } ∷ [])
 unfolding range sum_to only keep any_of first_of each refuse_if zeroed wrong_side wrong_grid wrong_byte wrong_bytes is_open on_grid cell_at landing reach_from reach wrong_capacity wrong_count share pairs first_shared carrier_verdict shared_verdict if_accepted step_cost cost bars_for bars_cell bars_way may_stand may_turn moved moves outdone preferred better best_of in_front best_way best_route prefer take_least run search total route_under with_route free_routes root_of root node_sum is_clear child_with child first_short worked_on plan_written with_plan wrong_limits_by_k wrong_ends first_wrong_by_k judge_by_k written_by_k meets_by_k swaps_by_k happens_by_k pairs_by_k step_by_k candidates_by_k or_clear_by_k chosen_by_k clash_by_k clear_by_k stay_by_k cross_by_k kids_for_by_k kids_by_k tree_by_k searched_by_k if_long_by_k enough_by_k planned_by_k
 stars_by_k = refl
 
 -- 0 1 and 1 0 are lawful routes, and the two exchange their cells at step 0
-pub checks_by_k : (route_verdict_by_k exchange (0 ∷ 1 ∷ 1 ∷ 0 ∷ []) ≡ Lawful) × (meeting_verdict_by_k exchange (0 ∷ 1 ∷ 1 ∷ 0 ∷ []) ≡ Compared (Swap 0 1 0))
+pub checks_by_k : (route_verdict_by_k exchange (0 ∷ 1 ∷ 1 ∷ 0 ∷ []) ≡ Ok None) × (meeting_verdict_by_k exchange (0 ∷ 1 ∷ 1 ∷ 0 ∷ []) ≡ Ok (Swap 0 1 0))
 unfolding range keep only any_of first_of each refuse_if wrong_side wrong_grid wrong_byte wrong_bytes is_open on_grid cell_at landing reach_from reach may_follow wrong_count share pairs first_shared carrier_verdict shared_verdict if_accepted wrong_move wrong_arrival wrong_at places first_wrong_place place_verdict wrong_limits_by_k wrong_ends first_wrong_by_k judge_by_k written_by_k meets_by_k swaps_by_k happens_by_k pairs_by_k step_by_k candidates_by_k or_clear_by_k chosen_by_k plan_verdict_by_k route_verdict_by_k plan_clash_by_k compared_by_k meeting_verdict_by_k
 checks_by_k = (refl, refl)
 

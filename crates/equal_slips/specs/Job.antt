@@ -1,15 +1,14 @@
 -- Document 01 as it stood before P3: 'A job is a hall, a list of carriers (each a record of start cell and goal cell, numbered from 0),
 -- the delay bound k (0 to 4), the horizon H (0 to 63) and the capacity N'. The two checks have no N, so it stands beside.
 -- What goes by k is defined in this crate and named so, as `judge_by_k`. What P3 does not touch is taken from the crates below.
-use Rattle.std.specs.Prelude.{ℕ, ◌<◌, Bool, not, ◌||◌, List, ◌≡◌, ltb, get_or}
+use Rattle.std.specs.Prelude.{ℕ, ◌<◌, Bool, not, ◌||◌, List, ◌≡◌, ltb, get_or, Ok, Err}
 use Rattle.std.proofs.Math.Option.{Option}
 use Rattle.lists.specs.Lists.{range, first_of, refuse_if}
 use Rattle.hall.specs.Hall.{Hall, wrong_grid, wrong_bytes, is_open}
 use Rattle.job.specs.Job.{Job, most_horizon, wrong_count, first_shared}
-use Rattle.job.specs.Verdict.{carrier_verdict, shared_verdict}
+use Rattle.job.specs.Verdict.{Verdict, carrier_verdict, shared_verdict}
 use Rattle.job.specs.declared.Team.{Team}
-use Rattle.job.specs.declared.Verdict.{Verdict}
-use Rattle.job.specs.declared.Verdict.TheVariants.{Accepted, WrongGrid, WrongBytes, WrongLimits, WrongCount, SharedStart, SharedGoal}
+use Rattle.job.specs.declared.Refusal.TheVariants.{WrongGrid, WrongBytes, WrongLimits, WrongCount, SharedStart, SharedGoal}
 
 pub record OneJob : Type 0 where
   pub hall : Hall
@@ -70,10 +69,10 @@ first_wrong_by_k one = first_of (wrong_ends one) (range 0 one.count)
 -- looks at N too, the plan checks' third does not.
 unfoldable pub judge_by_k : Bool → OneJob → Verdict
 judge_by_k wrongN one =
-    refuse_if (wrong_grid one.hall) WrongGrid
-    (refuse_if (wrong_bytes one.hall) WrongBytes
-    (refuse_if (wrong_limits_by_k one || wrongN) WrongLimits
-    (refuse_if (wrong_count (slipless one)) WrongCount
+    refuse_if (wrong_grid one.hall) (Err WrongGrid)
+    (refuse_if (wrong_bytes one.hall) (Err WrongBytes)
+    (refuse_if (wrong_limits_by_k one || wrongN) (Err WrongLimits)
+    (refuse_if (wrong_count (slipless one)) (Err WrongCount)
     (carrier_verdict (first_wrong_by_k one)
     (shared_verdict (λ i j. SharedStart i j) (first_shared one.start_of one.count)
-    (shared_verdict (λ i j. SharedGoal i j) (first_shared one.goal_of one.count) Accepted))))))
+    (shared_verdict (λ i j. SharedGoal i j) (first_shared one.goal_of one.count) (Ok tt)))))))

@@ -1,19 +1,17 @@
 -- P3: 'with equal slips every accepted job keeps its answer.' What is claimed, and proved in proofs/Same.antt: where every slip is k, the
 -- planner's answer and tables, and what both checks say, are those of document 01's rules with one k.
-use Rattle.std.specs.Prelude.{ℕ, ◌≤◌, ◌<◌, ◌≡◌, Bool, List}
+use Rattle.std.specs.Prelude.{ℕ, ◌≤◌, ◌<◌, ◌≡◌, Bool, List, Ok}
 use Rattle.lists.specs.Lists.{Every}
 use Rattle.job.specs.Job.{Job}
 use Rattle.job.specs.Team.{job_of}
-use Rattle.job.specs.declared.Verdict.TheVariants.{Accepted}
 use Rattle.routes.specs.Check.{route_verdict}
 use Rattle.clashes.specs.Check.{meeting_verdict}
 use Rattle.book.specs.Parts.{count_in, slip_in}
 use Rattle.carriers.specs.Lent.{bytes_team, records_team}
 use Rattle.carriers.specs.declared.Carrier.{Carrier}
 use Rattle.tables.specs.Tables.{Tables}
-use Rattle.planner.specs.Answer.{planned}
+use Rattle.planner.specs.Answer.{Answer, planned}
 use Rattle.planner.specs.Post.{Planned}
-use Rattle.planner.specs.declared.Answer.{Answer}
 use Rattle.equal_slips.specs.Job.{OneJob, with_slips, EverySlip, one_job_of, most_delay, judge_by_k}
 use Rattle.equal_slips.specs.Answer.{planned_by_k}
 use Rattle.equal_slips.specs.Check.{route_verdict_by_k, meeting_verdict_by_k}
@@ -29,7 +27,7 @@ pub record Keeps (job : Job) (one : OneJob) : Type 0 where
 
 -- The theorem. A job was accepted by the planner, whose third check looks at N, or by the two checks, whose third does not.
 abbrev pub AcceptedKeeps : Type 0
-AcceptedKeeps = (one : OneJob) (slipOf : ℕ → ℕ) → EverySlip one slipOf → (wrongN : Bool) → judge_by_k wrongN one ≡ Accepted → Keeps (with_slips one slipOf) one
+AcceptedKeeps = (one : OneJob) (slipOf : ℕ → ℕ) → EverySlip one slipOf → (wrongN : Bool) → judge_by_k wrongN one ≡ Ok tt → Keeps (with_slips one slipOf) one
 
 -- Where k is at most 4, refused jobs keep their number and what is told with it too. Above 4 it may differ:
 -- the job of law `above_four` was 3 and is 5.
@@ -40,11 +38,11 @@ SmallKeeps = (one : OneJob) (slipOf : ℕ → ℕ) → EverySlip one slipOf → 
 abbrev pub RecordsKeep : Type 0
 RecordsKeep =
     (width height : ℕ) (bytes : List ℕ) (records : List Carrier) (k h : ℕ) → Every (λ c. c.slip ≡ k) records
-    → (wrongN : Bool) → judge_by_k wrongN (one_job_of width height bytes (records_team records) k h) ≡ Accepted
+    → (wrongN : Bool) → judge_by_k wrongN (one_job_of width height bytes (records_team records) k h) ≡ Ok tt
     → Keeps (job_of width height bytes (records_team records) h) (one_job_of width height bytes (records_team records) k h)
 
 abbrev pub BytesKeep : Type 0
 BytesKeep =
     (width height : ℕ) (bytes body : List ℕ) (k h : ℕ) → ((i : ℕ) → i < count_in body → slip_in body i ≡ k)
-    → (wrongN : Bool) → judge_by_k wrongN (one_job_of width height bytes (bytes_team body) k h) ≡ Accepted
+    → (wrongN : Bool) → judge_by_k wrongN (one_job_of width height bytes (bytes_team body) k h) ≡ Ok tt
     → Keeps (job_of width height bytes (bytes_team body) h) (one_job_of width height bytes (bytes_team body) k h)

@@ -3,19 +3,18 @@
 use Prim.Native.Nat.{ℕ, ◌+◌, ◌-◌, ◌*◌, ◌/◌, ◌%◌, ◌≤◌, ◌<◌}
 use native.Mathlib.Nat.{mul-le-mul}
 use native.Mathlib.Omega.{arith}
-use mathlib.Core.Path.{◌≡◌, refl, sym, ap, ◌∙◌}
-use mathlib.Core.Bool.{Bool, true, false, not, ◌&&◌, and-false}
+use mathlib.Core.Path.{◌≡◌}
+use mathlib.Core.Bool.{true, false, ◌&&◌}
 use lib.Dec.{eqb, ltb, leb, ltb→lt, leb→le}
-use lib.ListN.{length, get_or, get_or-eq_default}
-use borrow.Author.Tests.{lt-ltb, le-ltb, eq-eqb, ne_eqb}
+use lib.ListN.{get_or}
+use borrow.Author.Tests.{lt-ltb}
 use Rattle.lists.specs.Lists.{only, any_of}
 use Rattle.lists.proofs.Passing.{any_kept}
 use Rattle.lists.proofs.Tests.{of_true, and_both}
-use Rattle.hall.specs.Hall.{Hall, size, wrong_byte, wrong_bytes, is_open}
+use Rattle.hall.specs.Hall.{Hall, size, is_open}
 use Rattle.hall.specs.Moves.{row_after, col_after, on_grid, cell_at, landing, reach_from, reach, may_follow}
 use Rattle.hall.specs.Landing.{landed}
-use Rattle.hall.specs.declared.Landing.{Landing}
-use Rattle.hall.specs.declared.Landing.TheVariants.{Off, Cell}
+use Rattle.std.specs.Prelude.{None, Some}
 
 pub area_small : {w h : ℕ} → w ≤ 16 → h ≤ 16 → w * h ≤ 256
 area_small a b = mul-le-mul a b
@@ -24,25 +23,7 @@ area_small a b = mul-le-mul a b
 pub layers_small : {h size : ℕ} → h ≤ 63 → size ≤ 256 → (h + 1) * size ≤ 16384
 layers_small {h} a b = let n : h + 1 ≤ 64 = omega arith in mul-le-mul n b
 
--- ---- the bytes
-
-pub bytes_of_length : (hall : Hall) → length hall.bytes ≡ size hall → any_of wrong_byte hall.bytes ≡ wrong_bytes hall
-unfolding wrong_bytes
-bytes_of_length hall e = simp (eq-eqb (length hall.bytes) (size hall) e)
-
-pub bytes_not_of_length : (hall : Hall) → (length hall.bytes ≡ size hall → ⊥) → not (eqb (length hall.bytes) (size hall)) ≡ wrong_bytes hall
-unfolding wrong_bytes
-bytes_not_of_length hall n = simp (ne_eqb (length hall.bytes) (size hall) n)
-
 -- ---- the open cells
-
-pub closed_past : (hall : Hall) (v : ℕ) → size hall ≤ v → false ≡ is_open hall v
-unfolding is_open
-closed_past hall v l = simp (le-ltb v (size hall) l)
-
-pub closed_short : (hall : Hall) (v : ℕ) → length hall.bytes ≤ v → false ≡ is_open hall v
-unfolding is_open
-closed_short hall v l = simp (get_or-eq_default hall.bytes 0 l) (sym (and-false (ltb v (size hall))))
 
 pub open_read : (hall : Hall) (v : ℕ) → v < size hall → eqb (get_or hall.bytes v 0) 46 ≡ is_open hall v
 unfolding is_open
@@ -59,35 +40,15 @@ grid_bounds w h r c e =
     ((ltb→lt 0 r r0, leb→le r h r1), (ltb→lt 0 c c0, leb→le c w c1))
 
 module _ (w h row col m r c : ℕ) (er : r ≡ row_after row m) (ec : c ≡ col_after col m) where
-  pub landed_cell : on_grid w h r c ≡ true → landed (Cell ((r - 1) * w + (c - 1))) ≡ landing w h row col m
+  pub landed_cell : on_grid w h r c ≡ true → landed (Some ((r - 1) * w + (c - 1))) ≡ landing w h row col m
   unfolding landed landing cell_at only
   landed_cell e = simp (← er, ← ec, e)
 
-  pub landed_off : on_grid w h r c ≡ false → landed Off ≡ landing w h row col m
+  pub landed_off : on_grid w h r c ≡ false → landed None ≡ landing w h row col m
   unfolding landed landing only
   landed_off e = simp (← er, ← ec, e)
 
-pub lands_off : (to : ℕ) (l : Landing) → l ≡ Off → false ≡ any_of (eqb to) (landed l)
-unfolding landed any_of
-lands_off to l e = rw e
-
-test_alone : (b : Bool) → b ≡ elim b [ true ↦ true | false ↦ false ]
-test_alone true = refl
-test_alone false = refl
-
-pub lands_cell : (to v : ℕ) (l : Landing) → l ≡ Cell v → eqb to v ≡ any_of (eqb to) (landed l)
-unfolding landed any_of
-lands_cell to v l e = rw e (test_alone (eqb to v))
-
--- what may follow is open and one move or a stay away; b is what the test of openness said
-module _ (hall : Hall) (v to : ℕ) where
-  follows_test : (is_open hall to && any_of (eqb to) (reach hall v)) ≡ any_of (eqb to) (may_follow hall v)
-  unfolding may_follow
-  follows_test = any_kept (is_open hall) to (reach hall v)
-
-  pub follows_open : (b : Bool) → b ≡ is_open hall to → b ≡ true → any_of (eqb to) (reach_from hall.width hall.height (v / hall.width) (v % hall.width)) ≡ any_of (eqb to) (may_follow hall v)
-  unfolding reach
-  follows_open b e t = ap (λ (o : Bool). o && any_of (eqb to) (reach hall v)) (sym t ∙ e) ∙ follows_test
-
-  pub follows_closed : (b : Bool) → b ≡ is_open hall to → b ≡ false → b ≡ any_of (eqb to) (may_follow hall v)
-  follows_closed b e f = f ∙ ap (λ (o : Bool). o && any_of (eqb to) (reach hall v)) (sym f ∙ e) ∙ follows_test
+-- what may follow is open and one move or a stay away
+pub follows_test : (hall : Hall) (v to : ℕ) → (is_open hall to && any_of (eqb to) (reach_from hall.width hall.height (v / hall.width) (v % hall.width))) ≡ any_of (eqb to) (may_follow hall v)
+unfolding may_follow reach
+follows_test hall v to = any_kept (is_open hall) to (reach hall v)

@@ -1,3 +1,4 @@
+pub mod Kit
 pub mod HallCode
 pub mod MoveTable
 pub mod Reach

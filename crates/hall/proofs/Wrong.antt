@@ -11,7 +11,7 @@ use Rattle.lists.specs.Lists.{range, only, keep, any_of, each}
 use Rattle.hall.specs.Hall.{Hall, wrong_side, wrong_byte, wrong_bytes, is_open}
 use Rattle.hall.specs.Moves.{row_changes, col_changes, on_grid, cell_at, landing, reach_from, reach, may_follow}
 use Rattle.hall.specs.Landing.{landed}
-use Rattle.hall.specs.declared.Landing.TheVariants.{Cell}
+use Rattle.std.specs.Prelude.{Some}
 
 -- 2 by 2: 0 is open, 1 closed, 2 and 3 open; and four open cells with a byte too many
 abbrev corner : Hall
@@ -20,7 +20,7 @@ corner = record { width = 2; height = 2; bytes = 46 ∷ 35 ∷ 46 ∷ 46 ∷ [] 
 abbrev overlong : Hall
 overlong = record { width = 2; height = 2; bytes = 46 ∷ 46 ∷ 46 ∷ 46 ∷ 46 ∷ [] }
 
--- ---- wrong_grid
+-- ---- Grid::new
 
 -- 16 columns refused
 pub sixteen_refused : true ≡ (wrong_side 16 || wrong_side 1) → ⊥
@@ -72,12 +72,12 @@ row_for_column e = let z : ◌≡◌ {A = ℕ} 1 0 = e in omega arith
 -- ---- landing_at and lands_on
 
 -- right from the last column goes on in the next row
-pub onto_the_next_row : landed (Cell 2) ≡ landing 2 2 0 1 3 → ⊥
+pub onto_the_next_row : landed (Some 2) ≡ landing 2 2 0 1 3 → ⊥
 unfolding landed landing on_grid only
 onto_the_next_row e = let z : ◌≡◌ {A = ℕ} 2 9 = ap (λ (cells : List ℕ). get_or cells 0 9) e in omega arith
 
 -- row × height for row × width, in a hall of 3 by 2
-pub height_for_width : landed (Cell 2) ≡ landing 3 2 0 0 4 → ⊥
+pub height_for_width : landed (Some 2) ≡ landing 3 2 0 0 4 → ⊥
 unfolding landed landing on_grid only cell_at
 height_for_width e = let z : ◌≡◌ {A = ℕ} 2 3 = ap (λ (cells : List ℕ). get_or cells 0 9) e in omega arith
 

@@ -8,10 +8,10 @@ use mathlib.Core.Logic.{◌≢◌}
 use mathlib.Core.Bool.{Bool, false}
 use lib.Dec.{T}
 use lib.ListN.{length}
+use Rattle.std.specs.Prelude.{Ok}
 use Rattle.hall.specs.Hall.{is_open}
 use Rattle.job.specs.Job.{Job}
 use Rattle.job.specs.Verdict.{judge_with}
-use Rattle.job.specs.declared.Verdict.TheVariants.{Accepted}
 use Rattle.job.proofs.Due.{open_exact, accepted_right}
 
 pub record Facts (wrongN : Bool) (job : Job) : Type 0 where
@@ -30,7 +30,7 @@ pub record Facts (wrongN : Bool) (job : Job) : Type 0 where
   pub starts_apart : (i j : ℕ) → i < j → j < job.count → job.start_of i ≢ job.start_of j
   pub goals_apart : (i j : ℕ) → i < j → j < job.count → job.goal_of i ≢ job.goal_of j
 
-pub accepted_facts : (wrongN : Bool) (job : Job) → judge_with wrongN job ≡ Accepted → Facts wrongN job
+pub accepted_facts : (wrongN : Bool) (job : Job) → judge_with wrongN job ≡ Ok tt → Facts wrongN job
 accepted_facts wrongN job e =
     let (r, n) = (accepted_right wrongN (wrongN ≡ false) (λ f. f, λ f. f) job).0 e in
     record {

@@ -9,6 +9,7 @@ use mathlib.Core.Logic.{◌⊎◌, inl, inr, ◌↔◌}
 use mathlib.Core.Option.{Option, none, some}
 use lib.Dec.{T, eqb, ltb}
 use lib.ListN.{length, get_or}
+use Rattle.std.specs.Prelude.{Ok, Err}
 use borrow.Author.Tests.{eqb-true, eqb-false, ltb-true, ltb-false, lt-ltb, le-ltb, eq-eqb, ne_eqb, not-false}
 use Rattle.lists.specs.Lists.{range, any_of, Every, refuse_if}
 use Rattle.lists.proofs.Tests.{is_true, is_false, of_true, of_false, not_both, and_both, both_and, or_fails, both_fail, not_fails, or_either}
@@ -21,10 +22,9 @@ use Rattle.hall.proofs.RightHall.{grid_right, bytes_right}
 use Rattle.job.specs.Job.{Job, Pair, wrong_limits, wrong_capacity, wrong_count, wrong_carrier, first_wrong, share, pairs, first_shared}
 use Rattle.job.specs.Due.{RightGrid, RightBytes, RightLimits, RightCapacity, RightCount, OpenCell, RightCarrier, NoneShare, FirstShare, RightJob, Due, due_0, due_1, due_2, due_3, due_4, due_5, due_6, due_16}
 use Rattle.job.specs.Found.{shared_by}
-use Rattle.job.specs.Verdict.{verdict_told, carrier_verdict, shared_verdict, judge_with, judge, IsAccepted}
+use Rattle.job.specs.Verdict.{Verdict, verdict_told, carrier_verdict, shared_verdict, judge_with, judge, IsAccepted}
 use Rattle.job.specs.declared.Told.{Told}
-use Rattle.job.specs.declared.Verdict.{Verdict}
-use Rattle.job.specs.declared.Verdict.TheVariants.{Accepted, WrongGrid, WrongBytes, WrongLimits, WrongCount, SharedStart, SharedGoal}
+use Rattle.job.specs.declared.Refusal.TheVariants.{WrongGrid, WrongBytes, WrongLimits, WrongCount, SharedStart, SharedGoal}
 use Rattle.job.proofs.Refused.{zero_accepted}
 
 -- ---- each test fails exactly where its fact holds
@@ -140,7 +140,7 @@ pairs_have m i j l h =
     (member_range {x = i} 0 m (omega arith) (omega arith))
     (member_map (λ b. record { one = i; two = b }) (range (suc i) (m - suc i)) (member_range {x = j} (suc i) (m - suc i) (omega arith) (omega arith)))
 
-pairs_are : (m : ℕ) → Every (λ p. (p.one < p.two) × (p.two < m)) (pairs m)
+pub pairs_are : (m : ℕ) → Every (λ p. (p.one < p.two) × (p.two < m)) (pairs m)
 unfolding pairs
 pairs_are m =
     every_each (λ p. (p.one < p.two) × (p.two < m)) (row m) (range 0 m)
@@ -219,13 +219,13 @@ module _ (wrongN : Bool) (N : Type 0) (exact : (wrongN ≡ false) ↔ N) (job : 
     pub count : RightCount job
     pub carriers : AllCarriers
 
-  goals_due : Before → NoneShare job.start_of job.count → (o : Option Pair) → ShareFact job.goal_of job.count o → Due job N (verdict_told (shared_verdict (λ i j. SharedGoal i j) o Accepted))
+  goals_due : Before → NoneShare job.start_of job.count → (o : Option Pair) → ShareFact job.goal_of job.count o → Due job N (verdict_told (shared_verdict (λ i j. SharedGoal i j) o (Ok tt)))
   unfolding shared_verdict ShareFact
   goals_due r starts none fact = due_0 (record { grid = r.grid; bytes = r.bytes; limits = r.limits.0; count = r.count; carriers = r.carriers; starts = starts; goals = fact }) r.limits.1
   goals_due r starts (some p) fact = due_16 r.grid r.bytes r.limits r.count r.carriers starts p.one p.two fact
 
   shared_due : Before → (o : Option Pair) → ShareFact job.start_of job.count o
-      → Due job N (verdict_told (shared_verdict (λ i j. SharedStart i j) o (shared_verdict (λ i j. SharedGoal i j) (first_shared job.goal_of job.count) Accepted)))
+      → Due job N (verdict_told (shared_verdict (λ i j. SharedStart i j) o (shared_verdict (λ i j. SharedGoal i j) (first_shared job.goal_of job.count) (Ok tt))))
   unfolding shared_verdict ShareFact
   shared_due r none fact = goals_due r fact (first_shared job.goal_of job.count) (first_share job.goal_of job.count)
   shared_due r (some p) fact = due_6 r.grid r.bytes r.limits r.count r.carriers p.one p.two fact
@@ -249,7 +249,7 @@ module _ (wrongN : Bool) (N : Type 0) (exact : (wrongN ≡ false) ↔ N) (job : 
   abbrev from_carriers : Verdict
   from_carriers = carrier_verdict (first_wrong job) (shared_by job.start_of job.goal_of job.count)
 
-  count_due : RightGrid job → RightBytes job → RightLimits job × N → (b : Bool) → wrong_count job ≡ b → Due job N (verdict_told (refuse_if b WrongCount from_carriers))
+  count_due : RightGrid job → RightBytes job → RightLimits job × N → (b : Bool) → wrong_count job ≡ b → Due job N (verdict_told (refuse_if b (Err WrongCount) from_carriers))
   unfolding refuse_if first_wrong
   count_due grid bytes limits true e = due_4 grid bytes limits (λ r. not_both e ((count_exact job).1 r))
   count_due grid bytes limits false e =
@@ -257,12 +257,12 @@ module _ (wrongN : Bool) (N : Type 0) (exact : (wrongN ≡ false) ↔ N) (job : 
       (first_fact (wrong_carrier job) (λ i. i < job.count) (range 0 job.count) (every_below (λ i. i < job.count) job.count (λ i l. l)))
       (first_least (wrong_carrier job) (λ i j. i ≤ j) (λ i. omega arith) (range 0 job.count) (ordered_range (λ i j. i ≤ j) 0 job.count (λ i j low less high. omega arith)))
 
-  limits_due : RightGrid job → RightBytes job → (b : Bool) → (wrong_limits job || wrongN) ≡ b → Due job N (verdict_told (refuse_if b WrongLimits (refuse_if (wrong_count job) WrongCount from_carriers)))
+  limits_due : RightGrid job → RightBytes job → (b : Bool) → (wrong_limits job || wrongN) ≡ b → Due job N (verdict_told (refuse_if b (Err WrongLimits) (refuse_if (wrong_count job) (Err WrongCount) from_carriers)))
   unfolding refuse_if
   limits_due grid bytes true e = due_3 grid bytes (λ r. not_both e (limits_both.1 r))
   limits_due grid bytes false e = count_due grid bytes (limits_both.0 e) (wrong_count job) refl
 
-  bytes_due : RightGrid job → (b : Bool) → wrong_bytes job.hall ≡ b → Due job N (verdict_told (refuse_if b WrongBytes (refuse_if (wrong_limits job || wrongN) WrongLimits (refuse_if (wrong_count job) WrongCount from_carriers))))
+  bytes_due : RightGrid job → (b : Bool) → wrong_bytes job.hall ≡ b → Due job N (verdict_told (refuse_if b (Err WrongBytes) (refuse_if (wrong_limits job || wrongN) (Err WrongLimits) (refuse_if (wrong_count job) (Err WrongCount) from_carriers))))
   unfolding refuse_if
   bytes_due grid true e = due_2 grid (λ r. not_both e ((bytes_exact job).1 r))
   bytes_due grid false e = limits_due grid ((bytes_exact job).0 e) (wrong_limits job || wrongN) refl
@@ -272,7 +272,7 @@ module _ (wrongN : Bool) (N : Type 0) (exact : (wrongN ≡ false) ↔ N) (job : 
   unfolding judge_with refuse_if
   judged_due = go (wrong_grid job.hall) refl
     where
-      go : (b : Bool) → wrong_grid job.hall ≡ b → Due job N (verdict_told (refuse_if b WrongGrid (refuse_if (wrong_bytes job.hall) WrongBytes (refuse_if (wrong_limits job || wrongN) WrongLimits (refuse_if (wrong_count job) WrongCount from_carriers)))))
+      go : (b : Bool) → wrong_grid job.hall ≡ b → Due job N (verdict_told (refuse_if b (Err WrongGrid) (refuse_if (wrong_bytes job.hall) (Err WrongBytes) (refuse_if (wrong_limits job || wrongN) (Err WrongLimits) (refuse_if (wrong_count job) (Err WrongCount) from_carriers)))))
       go true e = due_1 (λ r. not_both e ((grid_exact job).1 r))
       go false e = bytes_due ((grid_exact job).0 e) (wrong_bytes job.hall) refl
 
@@ -298,7 +298,7 @@ module _ (wrongN : Bool) (N : Type 0) (exact : (wrongN ≡ false) ↔ N) (job : 
   right_zero told (due_16 g b l c carriers starts i j first) r = absurd (r.0.goals i j first.apart first.inside first.shared)
   right_zero told (due_0 q n) r = refl
 
-  pub accepted_right : (judge_with wrongN job ≡ Accepted) ↔ (RightJob job × N)
+  pub accepted_right : (judge_with wrongN job ≡ Ok tt) ↔ (RightJob job × N)
   accepted_right = (
     λ e. zero_right (verdict_told (judge_with wrongN job)) judged_due (ap (λ (v : Verdict). (verdict_told v).number) e),
     λ r. zero_accepted (judge_with wrongN job) (right_zero (verdict_told (judge_with wrongN job)) judged_due r),
@@ -343,13 +343,13 @@ module _ (wrongN : Bool) (N : Type 0) (exact : (wrongN ≡ false) ↔ N) (job : 
   )
 
 -- the planner's job, and that of the two checks
-pub accepted_exactly : (job : Job) (n : ℕ) → (judge_with (wrong_capacity n) job ≡ Accepted) ↔ (RightJob job × RightCapacity n)
+pub accepted_exactly : (job : Job) (n : ℕ) → (judge_with (wrong_capacity n) job ≡ Ok tt) ↔ (RightJob job × RightCapacity n)
 accepted_exactly job n = accepted_right (wrong_capacity n) (RightCapacity n) (capacity_exact n) job
 
 pub checks_accept_exactly : (job : Job) → IsAccepted job ↔ RightJob job
 unfolding judge
 checks_accept_exactly job =
-    let exact : (judge_with false job ≡ Accepted) ↔ (RightJob job × Unit {0}) = accepted_right false (Unit {0}) (λ e. tt, λ u. refl) job in
+    let exact : (judge_with false job ≡ Ok tt) ↔ (RightJob job × Unit {0}) = accepted_right false (Unit {0}) (λ e. tt, λ u. refl) job in
     (λ e. (exact.0 e).0, λ r. exact.1 (r, tt))
 
 -- and the number that each gives

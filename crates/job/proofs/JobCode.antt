@@ -1,94 +1,104 @@
 -- What the code of the job check rests on: each way through the checks gives what the definition gives where its tests came out
 -- so. Assumes nothing.
-use Prim.Native.Nat.{ℕ, ◌+◌, ◌-◌}
+use Prim.Native.Nat.{ℕ, suc, ◌+◌, ◌-◌, ◌≤◌, ◌<◌}
 use native.Mathlib.Numerals.{add-one}
 use native.Mathlib.Omega.{arith}
-use mathlib.Core.Path.{◌≡◌, refl, sym, ap, ◌∙◌}
-use mathlib.Core.Bool.{Bool, true, false}
-use mathlib.Core.List.{List, map}
-use mathlib.Core.Option.{Option, none}
-use Rattle.lists.specs.Lists.{range, each, first_of, refuse_if}
-use Rattle.hall.specs.Hall.{wrong_grid, wrong_bytes}
-use Rattle.job.specs.Job.{Job, Pair, wrong_limits, wrong_count, wrong_carrier, first_wrong, share, pairs, first_shared}
-use Rattle.job.specs.Team.{job_of}
-use Rattle.job.specs.Verdict.{carrier_verdict, shared_verdict, judge_with}
-use Rattle.job.specs.Found.{shared_by, pairs_from, wrong_found, pair_found}
-use Rattle.job.specs.declared.Team.{Team}
-use Rattle.job.specs.declared.Carriers.{Carriers}
-use Rattle.job.specs.declared.Carriers.TheVariants.{Right, Wrong}
-use Rattle.job.specs.declared.Shared.{Shared}
-use Rattle.job.specs.declared.Shared.TheVariants.{Nobody, Two}
-use Rattle.job.specs.declared.Verdict.{Verdict}
-use Rattle.job.specs.declared.Verdict.TheVariants.{WrongGrid, WrongBytes, WrongLimits, WrongCount, WrongCarrier}
+use mathlib.Core.Path.{◌≡◌, refl, ap}
+use mathlib.Core.Bool.{Bool, true, false, cond}
+use mathlib.Core.List.{List, [], ◌∷◌, map}
+use mathlib.Core.Option.{Option as First, none, some}
+use lib.ListN.{length, take}
+use Rattle.std.proofs.Common.{length-take-le}
+use Rattle.std.proofs.lemmas.List.{get_or-take}
+use Rattle.std.specs.Prelude.{Option, Some, None, find, ◌==◌}
+use Rattle.std.specs.List.{range_with_len}
+use Rattle.lists.specs.Lists.{range, each, first_of}
+use Rattle.lists.proofs.Every.{every_imply}
+use Rattle.lists.proofs.Loops.{first_each_found, first_each_passed, first_each_done}
+use Rattle.lists.proofs.Passing.{first_same}
+use Rattle.lists.proofs.Ranges.{range_listed}
+use Rattle.job.specs.Job.{Job, Pair, wrong_carrier, first_wrong, share, pairs, first_shared}
+use Rattle.job.specs.Team.{team_in, lent_job}
+use Rattle.job.specs.Found.{end_in}
+use Rattle.job.specs.declared.LentJob.{LentJob}
+use Rattle.job.proofs.Due.{pairs_are}
 
--- ---- the definitions, as the loops go through them
+-- ---- the first that passes, as `find` finds it
 
-pub wrong_from : (job : Job) → first_wrong job ≡ first_of (wrong_carrier job) (range 0 (job.count - 0))
+module _ {A B : Type 0} (f : A → B) where
+  -- what was found, as the definitions say it
+  abbrev pub as_first : Option A → First B
+  as_first None = none
+  as_first (Some x) = some (f x)
+
+  found_first : (p : B → Bool) (xs : List A) → first_of p (map f xs) ≡ as_first (find (λ x. p (f x)) xs)
+  unfolding first_of
+  found_first p [] = refl
+  found_first p (x ∷ xs) = elim (p (f x)) as (λ (b : Bool). (elim b [ true ↦ some (f x) | false ↦ first_of p (map f xs) ]) ≡ as_first (cond b (Some x) (find (λ x. p (f x)) xs))) [ true ↦ refl | false ↦ found_first p xs ]
+
+abbrev same : ℕ → ℕ
+same i = i
+
+map_same : (xs : List ℕ) → map same xs ≡ xs
+map_same [] = refl
+map_same (x ∷ xs) = ap (λ ys. x ∷ ys) (map_same xs)
+
+pub first_wrong_found : (job : Job) → first_wrong job ≡ as_first same (find (wrong_carrier job) (range_with_len 0 job.count))
 unfolding first_wrong
-wrong_from job = let e : job.count - 0 ≡ job.count = omega arith in rw e
+first_wrong_found job = rw (range_listed, ← map_same (range 0 job.count)) (rw (found_first same (wrong_carrier job) (range 0 job.count), map_same) refl)
+
+-- ---- the pairs, carrier by carrier
+
+abbrev pair : ℕ → ℕ → Pair
+pair i j = record { one = i; two = j }
+
+abbrev pub or_else : {A : Type 0} → First A → First A → First A
+or_else none o = o
+or_else (some x) o = some x
+
+-- the pairs of carrier i and one after it, of m carriers
+abbrev pub pairs_from : ℕ → ℕ → List Pair
+pairs_from m i = map (pair i) (range (suc i) (m - suc i))
 
 pub pairs_from_lem : (m i : ℕ) → pairs_from m i ≡ map (λ j. record { one = i; two = j }) (range (i + 1) (m - (i + 1)))
-unfolding pairs_from
 pairs_from_lem m i = rw add-one
 
-pub shared_from : (end_of : ℕ → ℕ) (m : ℕ) → first_shared end_of m ≡ first_of (share end_of) (each (pairs_from m) (range 0 (m - 0)))
-unfolding first_shared pairs pairs_from
-shared_from end_of m = let e : m - 0 ≡ m = omega arith in rw e
+module _ (end_of : ℕ → ℕ) (m : ℕ) where
+  -- the first two that share, of the pairs whose first carrier is i or one after it
+  unfoldable pub shared_from : ℕ → First Pair
+  shared_from i = first_of (share end_of) (each (pairs_from m) (range i (m - i)))
 
--- ---- answers 5, 6 and 16
+  row_found : (i : ℕ) → first_of (share end_of) (pairs_from m i) ≡ as_first (pair i) (find (λ j. end_of i == end_of j) (range_with_len (i + 1) (m - (i + 1))))
+  unfolding share
+  row_found i = rw (add-one, range_listed) (found_first (pair i) (share end_of) (range (suc i) (m - suc i)))
 
-pub found_wrong : (carriers : Carriers) (i : ℕ) (o : Option ℕ) (rest : Verdict) → carriers ≡ Wrong i → wrong_found carriers ≡ o → WrongCarrier i ≡ carrier_verdict o rest
-unfolding wrong_found carrier_verdict
-found_wrong carriers i o rest e f = rw (← f, e)
+  pub shared_first : first_shared end_of m ≡ shared_from 0
+  unfolding first_shared pairs shared_from
+  shared_first = let e : m - 0 ≡ m = omega arith in rw e
 
-pub found_right : (carriers : Carriers) (o : Option ℕ) (rest : Verdict) → carriers ≡ Right → wrong_found carriers ≡ o → rest ≡ carrier_verdict o rest
-unfolding wrong_found carrier_verdict
-found_right carriers o rest e f = rw (← f, e)
+  pub shared_next : (i : ℕ) → i < m → shared_from i ≡ or_else (as_first (pair i) (find (λ j. end_of i == end_of j) (range_with_len (i + 1) (m - (i + 1))))) (shared_from (i + 1))
+  unfolding shared_from
+  shared_next i h = go (first_of (share end_of) (pairs_from m i)) refl
+    where
+      go : (o : First Pair) → first_of (share end_of) (pairs_from m i) ≡ o → first_of (share end_of) (each (pairs_from m) (range i (m - i))) ≡ or_else (as_first (pair i) (find (λ j. end_of i == end_of j) (range_with_len (i + 1) (m - (i + 1))))) (first_of (share end_of) (each (pairs_from m) (range (i + 1) (m - (i + 1)))))
+      go none e = rw (← row_found i, e) (first_each_passed (share end_of) (pairs_from m) i m h e)
+      go (some p) e = rw (← row_found i, e) (first_each_found (share end_of) (pairs_from m) i m h p e)
 
-module _ (refusal : ℕ → ℕ → Verdict) (shared : Shared) (o : Option Pair) (rest : Verdict) where
-  pub found_nobody : shared ≡ Nobody → pair_found shared ≡ o → rest ≡ shared_verdict refusal o rest
-  unfolding pair_found shared_verdict
-  found_nobody e f = rw (← f, e)
+  pub shared_last : (i : ℕ) → m ≤ i → shared_from i ≡ none
+  unfolding shared_from
+  shared_last i h = first_each_done (share end_of) (pairs_from m) i m h
 
-  pub found_two : (i j : ℕ) → shared ≡ Two i j → pair_found shared ≡ o → refusal i j ≡ shared_verdict refusal o rest
-  unfolding pair_found shared_verdict
-  found_two i j e f = rw (← f, e)
+-- of the first n cells, those of n carriers
+pub shared_taken : (cells : List ℕ) (n : ℕ) → n ≤ length cells → first_shared (end_in (take n cells)) (length (take n cells)) ≡ first_shared (end_in cells) n
+unfolding first_shared share
+shared_taken cells n fits =
+    let same : (i : ℕ) → i < n → end_in (take n cells) i ≡ end_in cells i = λ i l. get_or-take n cells i 0 l in
+    let all : length (take n cells) ≡ n = length-take-le n cells fits in
+    rw all (first_same (share (end_in (take n cells))) (share (end_in cells)) (pairs n)
+    (every_imply (λ p inside. rw (same p.one (omega (arith, inside.0, inside.1)), same p.two inside.1)) (pairs n) (pairs_are n)))
 
-pub pair_some : (shared : Shared) (i j : ℕ) (o : Option Pair) → shared ≡ Two i j → pair_found shared ≡ o → o ≡ pair_found (Two i j)
-pair_some shared i j o e f = sym f ∙ ap pair_found e
+-- ---- answer 5 does not look at H
 
-pub pair_none : (shared : Shared) (o : Option Pair) → shared ≡ Nobody → pair_found shared ≡ o → o ≡ none
-unfolding pair_found
-pair_none shared o e f = sym f ∙ ap pair_found e
-
--- ---- the checks in their order
-
-module _ (wrongN : Bool) (job : Job) where
-  pub judge_grid : wrong_grid job.hall ≡ true → WrongGrid ≡ judge_with wrongN job
-  unfolding judge_with refuse_if
-  judge_grid g = simp g
-
-  pub judge_bytes : wrong_grid job.hall ≡ false → wrong_bytes job.hall ≡ true → WrongBytes ≡ judge_with wrongN job
-  unfolding judge_with refuse_if
-  judge_bytes g b = simp (g, b)
-
-  pub judge_limits : wrong_grid job.hall ≡ false → wrong_bytes job.hall ≡ false → wrong_limits job ≡ true → WrongLimits ≡ judge_with wrongN job
-  unfolding judge_with refuse_if
-  judge_limits g b l = simp (g, b, l)
-
-  pub judge_capacity : wrong_grid job.hall ≡ false → wrong_bytes job.hall ≡ false → wrong_limits job ≡ false → wrongN ≡ true → WrongLimits ≡ judge_with wrongN job
-  unfolding judge_with refuse_if
-  judge_capacity g b l n = simp (g, b, l, n)
-
-  pub judge_count : wrong_grid job.hall ≡ false → wrong_bytes job.hall ≡ false → wrong_limits job ≡ false → wrongN ≡ false → wrong_count job ≡ true → WrongCount ≡ judge_with wrongN job
-  unfolding judge_with refuse_if
-  judge_count g b l n c = simp (g, b, l, n, c)
-
-  pub judge_rest : wrong_grid job.hall ≡ false → wrong_bytes job.hall ≡ false → wrong_limits job ≡ false → wrongN ≡ false → wrong_count job ≡ false → carrier_verdict (first_wrong job) (shared_by job.start_of job.goal_of job.count) ≡ judge_with wrongN job
-  unfolding judge_with refuse_if
-  judge_rest g b l n c = simp (g, b, l, n, c)
-
--- answer 5 does not look at H
-pub carriers_same : (width height : ℕ) (bytes : List ℕ) (team : Team) (h : ℕ) (rest : Verdict) → carrier_verdict (first_wrong (job_of width height bytes team 0)) rest ≡ carrier_verdict (first_wrong (job_of width height bytes team h)) rest
+pub carriers_same : (job : LentJob) → first_wrong (lent_job job) ≡ first_wrong (team_in (lent_job job).hall job.team)
 unfolding first_wrong wrong_carrier
-carriers_same width height bytes team h rest = refl
+carriers_same job = refl

@@ -1,7 +1,9 @@
 -- The job that a caller lends as numbers, hall bytes and the carriers by value.
 use Rattle.std.specs.Prelude.{ℕ, List, get_or}
+use Rattle.hall.specs.Hall.{Hall}
 use Rattle.job.specs.Job.{Job}
 use Rattle.job.specs.declared.Team.{Team}
+use Rattle.job.specs.declared.LentJob.{LentJob}
 
 -- width, height, hall bytes, carriers, H
 abbrev pub job_of : ℕ → ℕ → List ℕ → Team → ℕ → Job
@@ -14,3 +16,11 @@ job_of width height bytes team h =
       slip_of = λ i. get_or team.slips i 0;
       horizon = h;
     }
+
+-- the carriers in a hall, for the checks 5, 6 and 16, none of which looks at H
+abbrev pub team_in : Hall → Team → Job
+team_in hall team = job_of hall.width hall.height hall.bytes team 0
+
+-- a lent job, as the definitions read it
+abbrev pub lent_job : LentJob → Job
+lent_job job = job_of job.width job.height job.hall.now job.team job.horizon

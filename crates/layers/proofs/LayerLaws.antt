@@ -10,9 +10,9 @@ use mathlib.Core.Logic.{inl, inr}
 use lib.ListN.{length, get_or, set, length-set}
 use lib.Seq.{get_or-set_same, get_or-set_other}
 use Rattle.lent.specs.Made.{Made}
-use Rattle.lent.proofs.MadeLaws.{made_none, made_more, made_next, made_all}
+use Rattle.lent.proofs.MadeLaws.{made_more, made_next}
 use Rattle.hall.specs.Moves.{move_count}
-use Rattle.layers.specs.Fill.{near_entry, shut_by, way_by, least_way, level_by, other_half, IsHalf, Pads, LayerMade}
+use Rattle.layers.specs.Fill.{near_entry, shut_by, way_by, least_way, level_by, other_half, IsHalf, Pads}
 use Rattle.layers.proofs.CellLaws.{near_within}
 
 -- ---- halves
@@ -30,11 +30,6 @@ pub half_turned : (from : ℕ) → IsHalf from → IsHalf (other_half from)
 unfolding IsHalf
 half_turned from (inl e) = inr (omega arith)
 half_turned from (inr e) = inl (omega arith)
-
-pub turned_back : (from : ℕ) → IsHalf from → other_half (other_half from) ≡ from
-unfolding IsHalf
-turned_back from (inl e) = omega arith
-turned_back from (inr e) = omega arith
 
 -- what lies in one half does not lie in the other
 pub halves_apart : (from x y : ℕ) → IsHalf from → from ≤ x → x < from + 288 → y < 288 → x ≡ other_half from + y → ⊥
@@ -81,14 +76,6 @@ module _ (moves crossing : Bool) (shuts : List ℕ) (width from : ℕ) where
     pub pads : Pads n slate → Pads n slate'
 
   module _ (n base : ℕ) (slate layers : List ℕ) where
-    pub filling_none : Filling n base slate layers slate layers 0
-    filling_none = record { within = omega arith; layer = made_none base (level_by moves crossing slate shuts width from) layers; copied = λ w h. absurd (omega arith); read = λ x l h. refl; long = refl; pads = λ p. p }
-
-    pub filling_all : (slate' layers' : List ℕ) (v : ℕ) → Filling n base slate layers slate' layers' v → n ≤ v → LayerMade moves crossing shuts width n base from slate layers slate' layers'
-    filling_all slate' layers' v f l =
-        let e : v ≡ n = omega (arith, f.within) in
-        record { layer = made_all base v n (level_by moves crossing slate shuts width from) layers layers' f.layer e; copied = λ w h. f.copied w (omega arith); wide = f.long; pads = f.pads }
-
     module _ (some : 1 ≤ width) (wide : width ≤ 16) (half : IsHalf from) (small : n ≤ 256) (room : base + n ≤ length layers) (size : length slate ≡ 576) (slate' layers' : List ℕ) (v : ℕ) (f : Filling n base slate layers slate' layers' v) (low : v < n) where
       abbrev level : ℕ
       level = level_by moves crossing slate' shuts width from v (get_or layers' (base + v) 0)
@@ -118,7 +105,3 @@ module _ (moves crossing : Bool) (shuts : List ℕ) (width from : ℕ) where
             long = length-set slate' (other_half from + 16 + v) level ∙ f.long;
             pads = λ p. pads_kept n slate' (other_half from) v level (half_turned from half) low small (f.pads p);
           })
-
--- a layer of the one pass or of the other
-pub layer_of : (moves b crossing : Bool) (shuts : List ℕ) (width n base from : ℕ) (slate layers slate' layers' : List ℕ) → moves ≡ b → LayerMade b crossing shuts width n base from slate layers slate' layers' → LayerMade moves crossing shuts width n base from slate layers slate' layers'
-layer_of moves b crossing shuts width n base from slate layers slate' layers' e m = rw e m

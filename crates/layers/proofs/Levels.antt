@@ -425,9 +425,3 @@ module _ (stand : ℕ → ℕ → Bool) (turn : ℕ → ℕ → List ℕ) (goal 
       go : (o : Option (List ℕ)) → Holds (Leads goal n v) o → (end_of goal t o ≤ t + n) ⊎ (end_of goal t o ≡ 255)
       go none h = inr refl
       go (some r) h = inl (omega (arith, leads_cheap goal n v r h))
-
--- a way that ends in time is there
-pub end_some : (goal t : ℕ) (o : Option (List ℕ)) → end_of goal t o ≤ 63 → (r : List ℕ) × (o ≡ some r)
-unfolding end_of
-end_some goal t none h = absurd (omega arith)
-end_some goal t (some r) h = (r, refl)

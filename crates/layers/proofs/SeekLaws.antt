@@ -32,8 +32,8 @@ use Rattle.marks.proofs.Quiet.{quiet_free}
 use Rattle.layers.specs.Layers.{way_from, route_from, sought_of, end_of, soon_by, can_go_on, end_by, found_by, filled_from, late_for, byte_at, FilledBy, Filled}
 use Rattle.layers.specs.Fill.{Passed}
 use Rattle.layers.specs.Post.{NoCrossing, RestsFrom, end_told, SoughtBy, is_answer, SoughtRoute}
-use Rattle.layers.specs.declared.Sought.{Sought}
-use Rattle.layers.specs.declared.Sought.TheVariants.{Nothing, Cost}
+use Rattle.std.specs.Prelude.{Some, None}
+use Rattle.layers.specs.Sought.{Sought}
 use Rattle.layers.proofs.Levels.{Holds, Leads, leads_cheap, way_leads, end_most}
 use Rattle.layers.proofs.Soon.{soon_within, not_later, later_by}
 use Rattle.layers.proofs.Cut.{later, later_least, in_time, too_late, after_later, goes_on}
@@ -80,11 +80,11 @@ crossing_kept n crossing last h before after early same clear k t v l i = second
 
 -- ---- what an end tells
 
-pub told_none : (end : ℕ) → 254 ≤ end → end_told end ≡ Nothing
+pub told_none : (end : ℕ) → 254 ≤ end → end_told end ≡ None
 unfolding end_told
 told_none end l = rw (end_told, le-leb 254 end l)
 
-pub told_cost : (end : ℕ) → end < 254 → end_told end ≡ Cost end
+pub told_cost : (end : ℕ) → end < 254 → end_told end ≡ Some end
 unfolding end_told
 told_cost end l = rw (end_told, lt-leb 254 end l)
 

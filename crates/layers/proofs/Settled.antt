@@ -9,7 +9,7 @@ use Rattle.routes.specs.declared.Bar.{Bar}
 use Rattle.marks.proofs.Settled.{layers_same}
 use Rattle.layers.specs.Layers.{Filled}
 use Rattle.layers.specs.Post.{SoughtRoute}
-use Rattle.layers.specs.declared.Sought.{Sought}
+use Rattle.layers.specs.Sought.{Sought}
 
 -- layers that are filled alike, and alike beyond the planes
 pub filled_settled : (hall : Hall) (bars : List Bar) (start goal h : ℕ) (before after after' : List ℕ) → Filled hall bars start goal h after → Filled hall bars start goal h after' → SameFrom ((h + 1) * size hall + (h + 1) * size hall) before after → SameFrom ((h + 1) * size hall + (h + 1) * size hall) before after' → after ≡ after'

@@ -1,11 +1,10 @@
 -- The step where the first pass begins: it is not later than the horizon, and a carrier may rest from there on. Assumes nothing.
-use Prim.Native.Nat.{ℕ, ◌+◌, ◌*◌, min, max, ◌≤◌, ◌<◌}
-use native.Mathlib.Nat.{div-le_self, mod-le}
+use Prim.Native.Nat.{ℕ, ◌+◌, ◌*◌, max, ◌≤◌, ◌<◌}
 use native.Mathlib.Decide.{dec_le}
 use native.Mathlib.Omega.{arith}
-use mathlib.Core.Path.{◌≡◌, refl, sym, ap, ◌∙◌}
+use mathlib.Core.Path.{◌≡◌, refl, ap, ◌∙◌}
 use mathlib.Core.Logic.{◌⊎◌, inl, inr}
-use mathlib.Core.Bool.{true, not}
+use mathlib.Core.Bool.{true}
 use mathlib.Core.List.{List}
 use lib.Dec.{eqb}
 use lib.ListN.{length}
@@ -21,13 +20,6 @@ use Rattle.layers.specs.Post.{Fillable, RestsFrom, is_answer}
 use Rattle.layers.specs.declared.Trip.{Trip}
 
 -- ---- which step
-
-pub away_small : (width start goal : ℕ) → start < 256 → goal < 256 → away width start goal ≤ 510
-away_small width start goal l k = omega (arith, div-le_self start width, div-le_self goal width, mod-le start width, mod-le goal width)
-
-pub soon_made : (width start goal h until direct latest soon : ℕ) → direct ≡ away width start goal → latest ≡ max until direct → soon ≡ min h (latest + 2) → soon ≡ soon_by width start goal h until
-unfolding soon_by
-soon_made width start goal h until direct latest soon e f g = rw (g, f, e, soon_by)
 
 pub soon_within : (width start goal h until : ℕ) → soon_by width start goal h until ≤ h
 unfolding soon_by
@@ -59,9 +51,6 @@ whole_rests h bars = inl refl
 pub not_later : (end soon h : ℕ) → (end ≡ 254 → ⊥) → is_answer end soon h ≡ true
 unfolding is_answer
 not_later end soon h k = rw (is_answer, ne_eqb end 254 k)
-
-pub not_later_told : (end soon h : ℕ) → (end ≡ 254 → ⊥) → not (eqb end 254) ≡ is_answer end soon h
-not_later_told end soon h k = ap not (ne_eqb end 254 k) ∙ sym (not_later end soon h k)
 
 pub later_by : (end soon h : ℕ) → end ≡ 254 → eqb soon h ≡ is_answer end soon h
 unfolding is_answer

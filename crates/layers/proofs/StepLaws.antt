@@ -1,60 +1,24 @@
 -- What a pass does beside filling a layer: it lays the marks, begins on the goal, and ends a way that rests there. Assumes nothing.
-use Prim.Native.Nat.{ℕ, ◌+◌, max, ◌≤◌, ◌<◌}
+use Prim.Native.Nat.{ℕ, ◌+◌, ◌-◌, max, ◌≤◌, ◌<◌}
 use native.Mathlib.Omega.{arith}
 use native.Mathlib.Decide.{ℕ_discrete}
 use mathlib.Core.Path.{◌≡◌, refl, sym, ap, ◌∙◌}
 use mathlib.Core.Bool.{Bool, true, false, true≢false, ◌&&◌}
-use mathlib.Core.List.{List}
+use mathlib.Core.List.{List, ◌++◌}
 use mathlib.Core.Logic.{◌⊎◌, inl, inr}
 use lib.Dec.{eqb}
-use lib.ListN.{length, get_or, set, replicate, length-set, length-replicate, get_or-replicate}
+use lib.ListN.{length, get_or, set, replicate, take, drop, length-set, length-replicate, get_or-replicate}
 use lib.Seq.{get_or-set_same, get_or-set_other}
+use Rattle.std.proofs.lemmas.List.{get_or-append_right, get_or_append_left, get_or-take, get_or-drop, length-append, length-take, length-drop}
 use borrow.Author.Tests.{eq-eqb, ne_eqb}
 use Rattle.lent.specs.Made.{Made}
 use Rattle.lent.proofs.MadeLaws.{made_same}
-use Rattle.layers.specs.Fill.{IsHalf, Pads, Copied, mark_for, arrives, elsewhere, arrival, rested, ArrivalLaid, RestLaid}
+use Rattle.layers.specs.Fill.{IsHalf, Pads, Copied, arrival, rested, ArrivalLaid, RestLaid}
 use Rattle.layers.proofs.LayerLaws.{half_small, pads_kept}
 
 -- ---- marks
 
-pub last_only : (byte last : ℕ) → byte ≡ last → 0 ≡ mark_for true last byte
-unfolding mark_for
-last_only byte last e = rw (eq-eqb byte last e, mark_for)
-
-pub others_barred : (byte last : ℕ) → (byte ≡ last → ⊥) → 255 ≡ mark_for true last byte
-unfolding mark_for
-others_barred byte last n = rw (ne_eqb byte last n, mark_for)
-
-pub marks_moves : (moves : Bool) (last base n : ℕ) (a b : List ℕ) → moves ≡ true → Made base n (λ v byte. mark_for true last byte) a b → Made base n (λ v byte. mark_for moves last byte) a b
-marks_moves true last base n a b e m = m
-marks_moves false last base n a b e m = absurd (true≢false (sym e))
-
-pub marks_ends : (moves : Bool) (last base n : ℕ) (a : List ℕ) → moves ≡ false → Made base n (λ v byte. mark_for moves last byte) a a
-unfolding mark_for
-marks_ends true last base n a e = absurd (true≢false e)
-marks_ends false last base n a e = made_same base n (λ v byte. byte) a (λ v h. refl)
-
 -- ---- where the pass begins
-
-pub arrives-moves : (moves : Bool) (last : ℕ) → moves ≡ true → 0 ≡ arrives moves last
-unfolding arrives
-arrives-moves true last e = refl
-arrives-moves false last e = absurd (true≢false (sym e))
-
-pub arrives_ends : (moves : Bool) (last : ℕ) → moves ≡ false → last ≡ arrives moves last
-unfolding arrives
-arrives_ends true last e = absurd (true≢false e)
-arrives_ends false last e = refl
-
-pub elsewhere-moves : (moves : Bool) → moves ≡ true → 255 ≡ elsewhere moves
-unfolding elsewhere
-elsewhere-moves true e = refl
-elsewhere-moves false e = absurd (true≢false (sym e))
-
-pub elsewhere_ends : (moves : Bool) → moves ≡ false → 254 ≡ elsewhere moves
-unfolding elsewhere
-elsewhere_ends true e = absurd (true≢false e)
-elsewhere_ends false e = refl
 
 module _ (goal level rest : ℕ) (shut : ℕ → ℕ) where
   pub arrival_here : (mark : ℕ) → arrival goal level rest shut goal mark ≡ max level (max mark (shut goal))
@@ -187,3 +151,34 @@ module _ (moves : Bool) (goal t n base from : ℕ) (slate layers : List ℕ) (co
           wide = length-set slate (from + 16 + goal) t;
           pads = λ p. pads_kept n slate from goal t half inside small p;
         })
+
+-- ---- a layer copied
+
+module _ (p base n : ℕ) (layers slate part : List ℕ) (from : base + n ≤ length layers) (to : p + n ≤ length slate) (copy : part ≡ take n (drop base layers)) where
+  first_long : length (take p slate) ≡ p
+  first_long = simp length-take (omega arith)
+
+  part_long : length part ≡ n
+  part_long = ap length copy ∙ simp (length-take, length-drop) (omega arith)
+
+  pub layer_copied : (tail : List ℕ) → tail ≡ drop (p + n) slate → Made p n (λ v byte. get_or layers (base + v) 0) slate (take p slate ++ (part ++ tail))
+  layer_copied tail e =
+      rw e
+      record {
+        long = simp (length-append, length-take, length-drop) (omega (arith, part_long));
+        made = λ v h.
+            let at : p + v - p ≡ v = omega arith in
+            get_or-append_right (take p slate) (part ++ drop (p + n) slate) p (p + v) 0 first_long (omega arith)
+            ∙ ap (λ i. get_or (part ++ drop (p + n) slate) i 0) at
+            ∙ get_or_append_left part (drop (p + n) slate) 0 v (omega (arith, part_long))
+            ∙ ap (λ (xs : List ℕ). get_or xs v 0) copy
+            ∙ get_or-take n (drop base layers) v 0 h
+            ∙ get_or-drop base layers v 0;
+        under = λ x h. get_or_append_left (take p slate) (part ++ drop (p + n) slate) 0 x (omega (arith, first_long)) ∙ get_or-take p slate x 0 h;
+        over = λ x h.
+            let at : p + n + (x - p - n) ≡ x = omega arith in
+            get_or-append_right (take p slate) (part ++ drop (p + n) slate) p x 0 first_long (omega arith)
+            ∙ get_or-append_right part (drop (p + n) slate) n (x - p) 0 part_long (omega arith)
+            ∙ get_or-drop (p + n) slate (x - p - n) 0
+            ∙ ap (λ i. get_or slate i 0) at;
+      }

@@ -17,8 +17,8 @@ use Rattle.marks.specs.Marks.{stand_mark, bars_move, digit, digits_of, bears_unt
 use Rattle.layers.specs.Fill.{one_more_than}
 use Rattle.layers.specs.Layers.{way_from, route_from, sought_of, end_of, moves_of, moves_to, soon_by, can_go_on, end_by, found_by, filled_from, late_for, byte_at}
 use Rattle.layers.specs.Post.{SoughtRoute}
-use Rattle.layers.specs.declared.Sought.{Sought}
-use Rattle.layers.specs.declared.Sought.TheVariants.{Nothing, Cost}
+use Rattle.std.specs.Prelude.{Some, None}
+use Rattle.layers.specs.Sought.{Sought}
 
 -- ---- one_more
 
@@ -36,8 +36,8 @@ move_not_counted e = let z : ◌≡◌ {A = ℕ} 3 4 = e in omega arith
 
 -- in numbers: 9 for none
 abbrev told : Sought → ℕ
-told Nothing = 9
-told (Cost c) = c
+told None = 9
+told (Some c) = c
 
 abbrev open_square : Hall
 open_square = record { width = 2; height = 2; bytes = 46 ∷ 46 ∷ 46 ∷ 46 ∷ [] }
@@ -47,17 +47,17 @@ abbrev split_square : Hall
 split_square = record { width = 2; height = 2; bytes = 35 ∷ 46 ∷ 46 ∷ 35 ∷ [] }
 
 -- a step counted on the goal although all of the rest is on it
-pub goal_not_mended : (before after : List ℕ) → SoughtRoute open_square [] 3 3 1 before after (Cost 1) → ⊥
+pub goal_not_mended : (before after : List ℕ) → SoughtRoute open_square [] 3 3 1 before after (Some 1) → ⊥
 unfolding sought_of best_way in_front best_of better preferred outdone moves moved cost step_cost may_stand may_turn is_open reach reach_from landing cell_at on_grid range only keep any_of each
 goal_not_mended before after s = let z : ◌≡◌ {A = ℕ} 1 0 = ap told s.told in omega arith
 
 -- right from the last column onto the next row
-pub edge_not_asked : (before after : List ℕ) → SoughtRoute split_square [] 1 2 1 before after (Cost 1) → ⊥
+pub edge_not_asked : (before after : List ℕ) → SoughtRoute split_square [] 1 2 1 before after (Some 1) → ⊥
 unfolding sought_of best_way in_front best_of better preferred outdone moves moved cost step_cost may_stand may_turn is_open reach reach_from landing cell_at on_grid range only keep any_of each
 edge_not_asked before after s = let z : ◌≡◌ {A = ℕ} 1 9 = ap told s.told in omega arith
 
 -- the moves before the cost: from 0 to 1, the crossing barred up to step 2, by four steps with one move and not by three with three
-pub moves_before_cost : (before after : List ℕ) → SoughtRoute open_square (Cross 0 1 0 ∷ Cross 0 1 1 ∷ Cross 0 1 2 ∷ []) 0 1 4 before after (Cost 4) → ⊥
+pub moves_before_cost : (before after : List ℕ) → SoughtRoute open_square (Cross 0 1 0 ∷ Cross 0 1 1 ∷ Cross 0 1 2 ∷ []) 0 1 4 before after (Some 4) → ⊥
 unfolding sought_of best_way in_front best_of better preferred outdone moves moved cost step_cost may_stand may_turn bars_cell bars_way is_open reach reach_from landing cell_at on_grid range only keep any_of each
 moves_before_cost before after s = let z : ◌≡◌ {A = ℕ} 4 3 = ap told s.told in omega arith
 
@@ -66,7 +66,7 @@ moves_before_cost before after s = let z : ◌≡◌ {A = ℕ} 4 3 = ap told s.t
 abbrev two_rooms : Hall
 two_rooms = record { width = 3; height = 3; bytes = 46 ∷ 35 ∷ 46 ∷ 46 ∷ 35 ∷ 46 ∷ 46 ∷ 46 ∷ 46 ∷ [] }
 
-pub way_round_missed : (before after : List ℕ) → SoughtRoute two_rooms [] 0 2 6 before after Nothing → ⊥
+pub way_round_missed : (before after : List ℕ) → SoughtRoute two_rooms [] 0 2 6 before after None → ⊥
 unfolding sought_of best_way in_front best_of better preferred outdone moves moved cost step_cost may_stand may_turn is_open reach reach_from landing cell_at on_grid range only keep any_of each
 way_round_missed before after s = let z : ◌≡◌ {A = ℕ} 9 6 = ap told s.told in omega arith
 

@@ -2,7 +2,7 @@
 -- is marked (crate marks), then each byte becomes the step at which the best way on from there ends, then, up to the end of the best route,
 -- the moves of that way. The second keeps the digits of barred crossings. Not a reader's business beyond this file: the contracts of
 -- seeking and writing speak of the best route alone.
-use Rattle.std.specs.Prelude.{ℕ, zero, suc, ◌+◌, ◌-◌, ◌*◌, ◌/◌, ◌%◌, min, max, ◌≤◌, ◌<◌, ◌≡◌, Bool, true, false, ◌&&◌, List, eqb, leb, get_or}
+use Rattle.std.specs.Prelude.{ℕ, zero, suc, ◌+◌, ◌-◌, ◌*◌, ◌/◌, ◌%◌, min, max, ◌≤◌, ◌<◌, ◌≡◌, Bool, true, false, ◌&&◌, List, eqb, leb, get_or, Some, None}
 use Rattle.std.proofs.Math.Option.{Option, none, some}
 use Rattle.lists.specs.Lists.{any_of}
 use Rattle.hall.specs.Hall.{Hall, size}
@@ -11,8 +11,7 @@ use Rattle.routes.specs.Bars.{may_stand, may_turn}
 use Rattle.routes.specs.Best.{moves, best_way}
 use Rattle.routes.specs.declared.Bar.{Bar}
 use Rattle.marks.specs.Marks.{stand_mark, digits_of, quiet_from}
-use Rattle.layers.specs.declared.Sought.{Sought}
-use Rattle.layers.specs.declared.Sought.TheVariants.{Nothing, Cost}
+use Rattle.layers.specs.Sought.{Sought}
 
 -- the best way from a cell at a step to the horizon, and the best route (rule 2)
 unfoldable pub way_from : Hall → List Bar → ℕ → ℕ → ℕ → ℕ → Option (List ℕ)
@@ -22,8 +21,8 @@ abbrev pub route_from : Hall → List Bar → ℕ → ℕ → ℕ → Option (Li
 route_from hall bars start goal h = best_way (may_stand hall bars) (may_turn hall bars) goal h 0 start
 
 unfoldable pub sought_of : ℕ → Option (List ℕ) → Sought
-sought_of goal none = Nothing
-sought_of goal (some r) = Cost (cost goal r)
+sought_of goal none = None
+sought_of goal (some r) = Some (cost goal r)
 
 -- the step at which a way from step t on ends, 255 where there is none
 unfoldable pub end_of : ℕ → ℕ → Option (List ℕ) → ℕ

@@ -1,3 +1,4 @@
 pub mod Fill
 pub mod Layers
 pub mod Post
+pub mod Sought

@@ -1,6 +1,6 @@
 -- What seeking a route promises: the answer is that of the best route, the layers then hold what is wanted to read it off, and nothing beyond
 -- them changes.
-use Rattle.std.specs.Prelude.{ℕ, ◌+◌, ◌*◌, ◌≤◌, ◌<◌, ◌≡◌, ◌⊎◌, Bool, true, false, not, ◌||◌, List, eqb, leb, length, get_or}
+use Rattle.std.specs.Prelude.{ℕ, ◌+◌, ◌*◌, ◌≤◌, ◌<◌, ◌≡◌, ◌⊎◌, Bool, true, false, not, ◌||◌, List, eqb, leb, length, get_or, Some, None}
 use Rattle.lent.specs.Lent.{SameFrom}
 use Rattle.hall.specs.Hall.{Hall, size}
 use Rattle.hall.specs.declared.Grid.{Grid}
@@ -9,8 +9,7 @@ use Rattle.marks.specs.Marks.{Marked, quiet_from}
 use Rattle.shuts.specs.Shuts.{Floor}
 use Rattle.shuts.specs.Post.{lent_hall}
 use Rattle.layers.specs.Layers.{route_from, sought_of, found_by, FilledBy, Filled}
-use Rattle.layers.specs.declared.Sought.{Sought}
-use Rattle.layers.specs.declared.Sought.TheVariants.{Nothing, Cost}
+use Rattle.layers.specs.Sought.{Sought}
 use Rattle.layers.specs.declared.Trip.{Trip}
 
 -- layers for a pass that begins at step `last`
@@ -37,7 +36,7 @@ is_answer end soon h = not (eqb end 254) || eqb soon h
 
 -- what the end at the start tells
 unfoldable pub end_told : ℕ → Sought
-end_told end = elim (leb 254 end) [ true ↦ Nothing | false ↦ Cost end ]
+end_told end = elim (leb 254 end) [ true ↦ None | false ↦ Some end ]
 
 -- seeking a route that ends by step `late`: what is found of it
 pub record SoughtBy (hall : Hall) (bars : List Bar) (start goal h late : ℕ) (before after : List ℕ) (end : ℕ) : Type 0 where

@@ -19,7 +19,8 @@ ghost use Rattle.layers.specs.Post.{Fillable, NoCrossing, SoughtOn, SoughtWhole,
 use hall::Grid;
 use marks::Bound;
 
-// No way, and one that may end later than is looked at.
+// No way, and one that may end later than is looked at: numbers in the lent bytes and no enum, since the compiler takes the least and the
+// greatest of many cells at once. `seek_route` tells an Option.
 const NO_WAY: u8 = 255;
 
 const LATER: u8 = 254;
@@ -32,17 +33,11 @@ pub struct Trip {
     pub horizon: usize,
 }
 
-// What seeking a route finds: none, or one of this cost.
-#[derive(Clone, Copy)]
-pub enum Sought {
-    Nothing,
-    Cost(usize),
-}
-
 // The greatest number of moves, and one more is none.
 const MOST: u8 = 254;
 
-// The slate: two halves, each a layer between two pads of the greatest width. So every cell has an entry for each of its moves.
+// The slate: two halves, each a layer between two pads of the greatest width. So every cell has an entry for each of its moves. It and `from`,
+// the half that is read, stay two arguments: of a struct of both, each function that writes would have to promise that it keeps the half.
 const PAD: usize = 16;
 
 const HALF: usize = 288;
@@ -52,35 +47,42 @@ const SLATE: usize = 576;
 // A way round something costs two steps.
 const ROUND: usize = 2;
 
+// A pass over the layers: how wide the hall is, and whether some bar forbids a crossing. Whether it counts moves is MOVES, a parameter of each
+// function, so that the compiler makes a loop for each kind of pass; not of the struct, since the check takes no `bool` parameter beside a
+// ghost field. Whether a crossing is forbidden only the bars at hand tell, so it is a value.
+#[derive(Clone, Copy)]
+struct Pass {
+    width: usize,
+    crossing: bool,
+    ghost in_range: { (1 ≤ width) × (width ≤ 16) },
+}
+
+// Where a layer lies: its first byte in the layers, and the number of its cells. The layers are lent with it, and not the layer alone as a
+// slice: all that is said of a pass is said of places in the layers, and what each of its steps writes into a slice would have to be carried
+// over to them.
+#[derive(Clone, Copy)]
+struct Layer {
+    base: usize,
+    size: usize,
+    ghost small: { size ≤ 256 },
+}
+
 // ---- one cell
 
-fn lesser(a: u8, b: u8) -> u8
-    ensures { result ≡ min a b }
-{
-    if a <= b { a } else { b }
-}
-
-fn greater(a: u8, b: u8) -> u8
-    ensures { result ≡ max a b }
-{
-    if a <= b { b } else { a }
-}
-
 // One more, but no way stays none.
+#[tactic(auto, unfolding(crate::specs::Fill::one_more_than))]
 pub fn one_more(level: u8) -> u8
     ensures { result ≡ one_more_than level }
 {
-    lesser(level, MOST) + 1
+    level.min(MOST) + 1
 }
 
 // Where moves are counted, a move is one more.
-fn paid_for(level: u8, moves: bool) -> u8
-    ensures { result ≡ paid_for moves level }
+#[tactic(auto, unfolding(crate::specs::Fill::paid_for))]
+fn paid_for<const MOVES: bool>(level: u8) -> u8
+    ensures { result ≡ paid_for MOVES level }
 {
-    if moves {
-        return one_more(level);
-    }
-    level
+    if MOVES { one_more(level) } else { level }
 }
 
 // The moves to the left and to the right, which leave the grid from the first and from the last column.
@@ -90,218 +92,165 @@ fn sideways(m: usize) -> bool
     m == 1 || m == 3
 }
 
-// The entry that move m leads to from the entry `at`.
-fn near(slate: &[u8; SLATE], width: usize, at: usize, m: usize) -> u8
-    requires { (1 ≤ width) × (width ≤ 16) × (16 ≤ at) × (at + 16 < 576) × (m < 5) }
-    ensures { result ≡ get_or slate.now (near_entry width at m) 0 }
-{
-    slate[at + width * hall::down(m) + hall::right(m) - (width + 1)]
-}
-
-// The level that a move leads to, if it is not shut. Up and down need no asking, since no way leads from the pads.
-fn way_by(
-    slate: &[u8; SLATE],
-    shuts: &[u8; shuts::SHUTS],
-    width: usize,
-    at: usize,
-    v: usize,
-    m: usize,
-    crossing: bool,
-) -> u8
-    requires { (1 ≤ width) × (width ≤ 16) × (16 ≤ at) × (at + 16 < 576) × (v < 256) × (m < 5) }
-    ensures { result ≡ way_by crossing slate.now shuts.now width at v m }
-{
-    let level = near(slate, width, at, m);
-    if sideways(m) {
-        return greater(level, shuts[m * shuts::CELLS + v]);
+impl Pass {
+    // What stands where move m leads to from a cell, in the half of the slate that is read.
+    #[tactic(auto, using(crate::proofs::CellLaws::near_facts))]
+    fn near(self, slate: &[u8; SLATE], from: usize, v: usize, m: usize) -> u8
+        requires { (from ≤ 288) × (v < 256) × (m < 5) }
+        ensures { result ≡ get_or slate.now (near_entry self.width (from + 16 + v) m) 0 }
+    {
+        let at = from + PAD + v;
+        slate[at + self.width * hall::down(m) + hall::right(m) - (self.width + 1)]
     }
-    if crossing {
-        return greater(level, shuts[m * shuts::CELLS + v]);
+
+    // The level that a move leads to, if it is not shut. Up and down need no asking, since no way leads from the pads.
+    #[tactic(auto, unfolding(crate::specs::Fill::way_by, crate::specs::Fill::shut_by))]
+    fn way_by(
+        self,
+        slate: &[u8; SLATE],
+        shuts: &[u8; shuts::SHUTS],
+        from: usize,
+        v: usize,
+        m: usize,
+    ) -> u8
+        requires { (from ≤ 288) × (v < 256) × (m < 5) }
+        ensures { result ≡ way_by self.crossing slate.now shuts.now self.width (from + 16 + v) v m }
+    {
+        let level = self.near(slate, from, v, m);
+        if sideways(m) || self.crossing {
+            return level.max(shuts[m * shuts::CELLS + v]);
+        }
+        level
     }
-    level
-}
 
-// The least of the ways by all moves, and none is worse than no way; a stay is no move. No cell asks where it stands, so that the compiler
-// may do many cells at once.
-fn least_way(
-    slate: &[u8; SLATE],
-    shuts: &[u8; shuts::SHUTS],
-    width: usize,
-    at: usize,
-    v: usize,
-    moves: bool,
-    crossing: bool,
-) -> u8
-    requires { (1 ≤ width) × (width ≤ 16) × (16 ≤ at) × (at + 16 < 576) × (v < 256) }
-    ensures { result ≡ least_way moves crossing slate.now shuts.now width at v }
-{
-    let up = way_by(slate, shuts, width, at, v, 0, crossing);
-    let left = way_by(slate, shuts, width, at, v, 1, crossing);
-    let stay = way_by(slate, shuts, width, at, v, 2, crossing);
-    let right = way_by(slate, shuts, width, at, v, 3, crossing);
-    let down = way_by(slate, shuts, width, at, v, 4, crossing);
-    let away = lesser(lesser(up, left), lesser(right, down));
-    lesser(lesser(NO_WAY, stay), paid_for(away, moves))
-}
-
-// ---- one layer
-
-// The level of one cell, into the layers and into the other half of the slate.
-fn put_level(
-    shuts: &[u8; shuts::SHUTS],
-    width: usize,
-    v: usize,
-    from: usize,
-    to: usize,
-    moves: bool,
-    crossing: bool,
-    slate: &mut [u8; SLATE],
-    layers: &mut [u8],
-)
-    requires { (1 ≤ width) × (width ≤ 16) × (v < 256) × (from ≤ 288) × (to < length layers.old) }
-    ensures { (layers.new ≡ set layers.old to (level_by moves crossing slate.old shuts.now width from v (get_or layers.old to 0))) × (slate.new ≡ set slate.old (other_half from + 16 + v) (level_by moves crossing slate.old shuts.now width from v (get_or layers.old to 0))) }
-{
-    let mark = greater(layers[to], shuts[shuts::CLOSED + v]);
-    let level = greater(
-        mark,
-        least_way(slate, shuts, width, from + PAD + v, v, moves, crossing),
-    );
-    layers[to] = level;
-    slate[HALF - from + PAD + v] = level;
-}
-
-fn fill_cells(
-    shuts: &[u8; shuts::SHUTS],
-    width: usize,
-    size: usize,
-    base: usize,
-    from: usize,
-    moves: bool,
-    crossing: bool,
-    slate: &mut [u8; SLATE],
-    layers: &mut [u8],
-)
-    requires { (1 ≤ width) × (width ≤ 16) × (size ≤ 256) × (base + size ≤ length layers.old) × (length slate.old ≡ 576) × IsHalf from }
-    ensures { LayerMade moves crossing shuts.now width size base from slate.old layers.old slate.new layers.new }
-{
-    let mut v = 0;
-    while v < size {
-        put_level(
-            shuts,
-            width,
-            v,
-            from,
-            base + v,
-            moves,
-            crossing,
-            slate,
-            layers,
-        );
-        v += 1;
+    // The least of the ways by all moves, and none is worse than no way; a stay is no move. No cell asks where it stands, so that the
+    // compiler may do many cells at once.
+    #[tactic(auto, unfolding(crate::specs::Fill::least_way))]
+    fn least_way<const MOVES: bool>(
+        self,
+        slate: &[u8; SLATE],
+        shuts: &[u8; shuts::SHUTS],
+        from: usize,
+        v: usize,
+    ) -> u8
+        requires { (from ≤ 288) × (v < 256) }
+        ensures { result ≡ least_way MOVES self.crossing slate.now shuts.now self.width (from + 16 + v) v }
+    {
+        let up = self.way_by(slate, shuts, from, v, 0);
+        let left = self.way_by(slate, shuts, from, v, 1);
+        let stay = self.way_by(slate, shuts, from, v, 2);
+        let right = self.way_by(slate, shuts, from, v, 3);
+        let down = self.way_by(slate, shuts, from, v, 4);
+        let away = up.min(left).min(right.min(down));
+        NO_WAY.min(stay).min(paid_for::<MOVES>(away))
     }
-}
 
-// One layer. The kind of pass is a constant in each call, so that the compiler makes a loop for each.
-fn fill_layer(
-    shuts: &[u8; shuts::SHUTS],
-    width: usize,
-    size: usize,
-    base: usize,
-    from: usize,
-    moves: bool,
-    crossing: bool,
-    slate: &mut [u8; SLATE],
-    layers: &mut [u8],
-)
-    requires { (1 ≤ width) × (width ≤ 16) × (size ≤ 256) × (base + size ≤ length layers.old) × (length slate.old ≡ 576) × IsHalf from }
-    ensures { LayerMade moves crossing shuts.now width size base from slate.old layers.old slate.new layers.new }
-{
-    if moves {
-        fill_cells(
-            shuts, width, size, base, from, true, crossing, slate, layers,
-        );
-    } else {
-        fill_cells(
-            shuts, width, size, base, from, false, crossing, slate, layers,
-        );
+    // ---- one layer
+
+    // The level of one cell, into the layers and into the other half of the slate.
+    #[tactic(auto, unfolding(crate::specs::Fill::level_by))]
+    fn put_level<const MOVES: bool>(
+        self,
+        shuts: &[u8; shuts::SHUTS],
+        v: usize,
+        from: usize,
+        to: usize,
+        slate: &mut [u8; SLATE],
+        layers: &mut [u8],
+    )
+        requires { (v < 256) × (from ≤ 288) × (to < length layers.old) }
+        ensures { (layers.new ≡ set layers.old to (level_by MOVES self.crossing slate.old shuts.now self.width from v (get_or layers.old to 0))) × (slate.new ≡ set slate.old (other_half from + 16 + v) (level_by MOVES self.crossing slate.old shuts.now self.width from v (get_or layers.old to 0))) }
+    {
+        let mark = layers[to].max(shuts[shuts::CLOSED + v]);
+        let way = self.least_way::<MOVES>(slate, shuts, from, v);
+        let level = mark.max(way);
+        layers[to] = level;
+        slate[HALF - from + PAD + v] = level;
+    }
+
+    // One layer.
+    #[tactic(auto, using(crate::proofs::LayerLaws::half_small))]
+    fn fill_cells<const MOVES: bool>(
+        self,
+        shuts: &[u8; shuts::SHUTS],
+        layer: Layer,
+        from: usize,
+        slate: &mut [u8; SLATE],
+        layers: &mut [u8],
+    )
+        requires { (layer.base + layer.size ≤ length layers.old) × IsHalf from }
+        ensures { LayerMade MOVES self.crossing shuts.now self.width layer.size layer.base from slate.old layers.old slate.new layers.new }
+    {
+        for v in 0..layer.size {
+            self.put_level::<MOVES>(shuts, v, from, layer.base + v, slate, layers);
+        }
     }
 }
 
 // ---- one pass: of the steps at which the best ways end, or of the moves on those that end at `last`
 
 // Of the other ways nothing is asked any more: their cells are as good as barred.
+#[tactic(auto, unfolding(crate::specs::Fill::mark_for))]
 fn only_last(byte: u8, last: u8) -> u8
     ensures { result ≡ mark_for true last byte }
 {
-    if byte == last {
-        return 0;
-    }
-    NO_WAY
+    if byte == last { 0 } else { NO_WAY }
 }
 
-fn bar_others(last: u8, base: usize, size: usize, layers: &mut [u8])
-    requires { (size ≤ 256) × (base + size ≤ length layers.old) }
-    ensures { Made base size (λ v byte. mark_for true last byte) layers.old layers.new }
+fn bar_others(last: u8, layer: Layer, layers: &mut [u8])
+    requires { layer.base + layer.size ≤ length layers.old }
+    ensures { Made layer.base layer.size (λ v byte. mark_for true last byte) layers.old layers.new }
 {
-    let mut v = 0;
-    while v < size {
-        layers[base + v] = only_last(layers[base + v], last);
-        v += 1;
+    for v in 0..layer.size {
+        layers[layer.base + v] = only_last(layers[layer.base + v], last);
     }
 }
 
 // What counts as a mark in this pass.
-fn lay_marks(moves: bool, last: usize, base: usize, size: usize, layers: &mut [u8])
-    requires { (last ≤ 63) × (size ≤ 256) × (base + size ≤ length layers.old) }
-    ensures { Made base size (λ v byte. mark_for moves last byte) layers.old layers.new }
+#[tactic(auto, unfolding(crate::specs::Fill::mark_for))]
+fn lay_marks<const MOVES: bool>(last: usize, layer: Layer, layers: &mut [u8])
+    requires { (last ≤ 63) × (layer.base + layer.size ≤ length layers.old) }
+    ensures { Made layer.base layer.size (λ v byte. mark_for MOVES last byte) layers.old layers.new }
 {
-    if moves {
-        bar_others(last as u8, base, size, layers);
+    if MOVES {
+        bar_others(last as u8, layer, layers);
     }
 }
 
 // The level of the goal at the step where the pass begins, and of any other cell.
-fn arrives(moves: bool, last: usize) -> u8
+#[tactic(auto, unfolding(crate::specs::Fill::arrives))]
+fn arrives<const MOVES: bool>(last: usize) -> u8
     requires { last ≤ 63 }
-    ensures { result ≡ arrives moves last }
+    ensures { result ≡ arrives MOVES last }
 {
-    if moves {
-        return 0;
-    }
-    last as u8
+    if MOVES { 0 } else { last as u8 }
 }
 
-fn elsewhere(moves: bool) -> u8
-    ensures { result ≡ elsewhere moves }
+#[tactic(auto, unfolding(crate::specs::Fill::elsewhere))]
+fn elsewhere<const MOVES: bool>() -> u8
+    ensures { result ≡ elsewhere MOVES }
 {
-    if moves {
-        return NO_WAY;
-    }
-    LATER
+    if MOVES { NO_WAY } else { LATER }
 }
 
 // The layer as if a way from each cell might end later, or none, unless a carrier may not stand there.
-fn lay_rest(shuts: &[u8; shuts::SHUTS], rest: u8, base: usize, size: usize, layers: &mut [u8])
-    requires { (size ≤ 256) × (base + size ≤ length layers.old) }
-    ensures { Made base size (λ v byte. max rest (max byte (get_or shuts.now (1280 + v) 0))) layers.old layers.new }
+fn lay_rest(shuts: &[u8; shuts::SHUTS], rest: u8, layer: Layer, layers: &mut [u8])
+    requires { layer.base + layer.size ≤ length layers.old }
+    ensures { Made layer.base layer.size (λ v byte. max rest (max byte (get_or shuts.now (1280 + v) 0))) layers.old layers.new }
 {
-    let mut v = 0;
-    while v < size {
-        layers[base + v] = greater(rest, greater(layers[base + v], shuts[shuts::CLOSED + v]));
-        v += 1;
+    for v in 0..layer.size {
+        let closed = shuts[shuts::CLOSED + v];
+        layers[layer.base + v] = rest.max(layers[layer.base + v].max(closed));
     }
 }
 
 // A layer, into the first half of the slate.
-fn copy_layer(layers: &[u8], base: usize, size: usize, slate: &mut [u8; SLATE])
-    requires { (size ≤ 256) × (base + size ≤ length layers.now) × (length slate.old ≡ 576) }
-    ensures { Made 16 size (λ v byte. get_or layers.now (base + v) 0) slate.old slate.new }
+fn copy_layer(layers: &[u8], layer: Layer, slate: &mut [u8; SLATE])
+    requires { layer.base + layer.size ≤ length layers.now }
+    ensures { Made 16 layer.size (λ v byte. get_or layers.now (layer.base + v) 0) slate.old slate.new }
 {
-    let mut v = 0;
-    while v < size {
-        slate[PAD + v] = layers[base + v];
-        v += 1;
-    }
+    let bytes = &layers[layer.base..layer.base + layer.size];
+    slate[PAD..PAD + layer.size].copy_from_slice(bytes);
 }
 
 // The layer at the step where the pass begins: a way ends there only on the goal, if a carrier may stand on it; from elsewhere it may end
@@ -311,126 +260,105 @@ fn lay_arrival(
     goal: usize,
     level: u8,
     rest: u8,
-    base: usize,
-    size: usize,
+    layer: Layer,
     slate: &mut [u8; SLATE],
     layers: &mut [u8],
 )
-    requires sizes_fit { (goal < size) × (size ≤ 256) × (base + size ≤ length layers.old) }
+    requires sizes_fit { (goal < layer.size) × (layer.base + layer.size ≤ length layers.old) }
     requires slate_clear { slate.old ≡ replicate 576 255 }
-    ensures { ArrivalLaid goal level rest (λ v. get_or shuts.now (1280 + v) 0) size base layers.old slate.new layers.new }
+    ensures { ArrivalLaid goal level rest (λ v. get_or shuts.now (1280 + v) 0) layer.size layer.base layers.old slate.new layers.new }
 {
-    let there = greater(
-        level,
-        greater(layers[base + goal], shuts[shuts::CLOSED + goal]),
-    );
-    lay_rest(shuts, rest, base, size, layers);
-    layers[base + goal] = there;
-    copy_layer(layers, base, size, slate);
+    let mark = layers[layer.base + goal].max(shuts[shuts::CLOSED + goal]);
+    let there = level.max(mark);
+    lay_rest(shuts, rest, layer, layers);
+    layers[layer.base + goal] = there;
+    copy_layer(layers, layer, slate);
 }
 
 // On the goal, where all of the rest is on it too, the way ended when it came there.
-fn rest_end(
-    moves: bool,
+fn rest_end<const MOVES: bool>(
     goal: usize,
     t: usize,
-    size: usize,
-    base: usize,
+    layer: Layer,
     from: usize,
     slate: &mut [u8; SLATE],
     layers: &mut [u8],
 )
-    requires sizes_fit { (goal < size) × (size ≤ 256) × (t < 63) × (base + size ≤ length layers.old) × (length slate.old ≡ 576) × IsHalf from }
-    requires copied { Copied size base from slate.old layers.old }
-    ensures { RestLaid moves goal t size base from slate.old layers.old slate.new layers.new }
+    requires sizes_fit { (goal < layer.size) × (t < 63) × (layer.base + layer.size ≤ length layers.old) × IsHalf from }
+    requires copied { Copied layer.size layer.base from slate.old layers.old }
+    ensures { RestLaid MOVES goal t layer.size layer.base from slate.old layers.old slate.new layers.new }
 {
-    if moves {
+    if MOVES {
         return;
     }
-    if layers[base + goal] != (t + 1) as u8 {
+    if layers[layer.base + goal] != (t + 1) as u8 {
         return;
     }
-    layers[base + goal] = t as u8;
+    layers[layer.base + goal] = t as u8;
     slate[from + PAD + goal] = t as u8;
 }
 
-// A pass from step `last` back to 0: without `moves` the first, for the steps at which the best ways end, with them the second, for the
+// A pass from step `last` back to 0: without MOVES the first, for the steps at which the best ways end, with them the second, for the
 // moves on the ways that end at `last`.
-fn fill_back(
+fn fill_back<const MOVES: bool>(
     floor: &[u8; shuts::SHUTS],
     grid: Grid,
     trip: Trip,
     last: usize,
-    moves: bool,
     crossing: bool,
     layers: &mut [u8],
 )
     requires { Fillable grid trip last layers.old × NoCrossing crossing (grid.width * grid.height) trip.horizon layers.old }
-    ensures { PassedOn grid floor.now moves trip.goal ((trip.horizon + 1) * (grid.width * grid.height)) last layers.old layers.new × SameFrom ((last + 1) * (grid.width * grid.height)) layers.old layers.new }
+    ensures { PassedOn grid floor.now MOVES trip.goal ((trip.horizon + 1) * (grid.width * grid.height)) last layers.old layers.new × SameFrom ((last + 1) * (grid.width * grid.height)) layers.old layers.new }
 {
     let size = grid.width * grid.height;
     let plane = (trip.horizon + 1) * size;
-    let goal = trip.goal;
+    let pass = Pass {
+        width: grid.width,
+        crossing,
+    };
     let mut shuts = *floor;
     let mut slate = [NO_WAY; SLATE];
-    let first = last * size;
-    lay_marks(moves, last, first, size, layers);
-    let level = arrives(moves, last);
-    let rest = elsewhere(moves);
-    lay_arrival(&shuts, goal, level, rest, first, size, &mut slate, layers);
+    let first = Layer {
+        base: last * size,
+        size,
+    };
+    lay_marks::<MOVES>(last, first, layers);
+    let level = arrives::<MOVES>(last);
+    let rest = elsewhere::<MOVES>();
+    lay_arrival(&shuts, trip.goal, level, rest, first, &mut slate, layers);
     let mut from = 0;
-    let mut t = last;
-    while 0 < t {
-        t -= 1;
+    for t in (0..last).rev() {
         let base = t * size;
+        let layer = Layer { base, size };
         shuts::lay_shuts(crossing, floor, layers, plane + base, size, &mut shuts);
-        lay_marks(moves, last, base, size, layers);
-        fill_layer(
-            &shuts, grid.width, size, base, from, moves, crossing, &mut slate, layers,
-        );
+        lay_marks::<MOVES>(last, layer, layers);
+        pass.fill_cells::<MOVES>(&shuts, layer, from, &mut slate, layers);
         from = HALF - from;
-        rest_end(moves, goal, t, size, base, from, &mut slate, layers);
+        rest_end::<MOVES>(trip.goal, t, layer, from, &mut slate, layers);
     }
 }
 
 // ---- the two passes
-
-fn later(a: usize, b: usize) -> usize
-    ensures { result ≡ max a b }
-{
-    if a <= b { b } else { a }
-}
-
-fn sooner(a: usize, b: usize) -> usize
-    ensures { result ≡ min a b }
-{
-    if a <= b { a } else { b }
-}
-
-// How far apart two rows or two columns are.
-fn apart(a: usize, b: usize) -> usize
-    ensures { result ≡ apart a b }
-{
-    if a <= b { b - a } else { a - b }
-}
 
 // The steps that the goal is away from the start, if nothing is in the way.
 fn away(width: usize, trip: Trip) -> usize
     requires { (1 ≤ width) × (trip.start < 256) × (trip.goal < 256) }
     ensures { result ≡ away width trip.start trip.goal }
 {
-    let rows = apart(trip.start / width, trip.goal / width);
-    let columns = apart(trip.start % width, trip.goal % width);
+    let rows = (trip.start / width).abs_diff(trip.goal / width);
+    let columns = (trip.start % width).abs_diff(trip.goal % width);
     rows + columns
 }
 
 // A step by which the best route has most likely ended, and from which on no bar forbids anything.
+#[tactic(auto, unfolding(crate::specs::Layers::soon_by))]
 fn soon_by(width: usize, trip: Trip, until: usize) -> usize
     requires { (1 ≤ width) × (trip.start < 256) × (trip.goal < 256) × (until ≤ 64) }
     ensures { result ≡ soon_by width trip.start trip.goal trip.horizon until }
 {
     let direct = away(width, trip);
-    sooner(trip.horizon, later(until, direct) + ROUND)
+    trip.horizon.min(until.max(direct) + ROUND)
 }
 
 // Both passes, for a route that ends by step `late`: what is found of it.
@@ -445,13 +373,12 @@ fn seek_by(
     requires { Fillable grid trip late layers.old × NoCrossing crossing (grid.width * grid.height) trip.horizon layers.old × (trip.start < grid.width * grid.height) }
     ensures { SoughtOn grid floor.now trip late layers.old layers.new result }
 {
-    fill_back(floor, grid, trip, late, false, crossing, layers);
-    let start = trip.start;
-    let end = layers[start];
+    fill_back::<false>(floor, grid, trip, late, crossing, layers);
+    let end = layers[trip.start];
     if late < end as usize {
         return end;
     }
-    fill_back(floor, grid, trip, end as usize, true, crossing, layers);
+    fill_back::<true>(floor, grid, trip, end as usize, crossing, layers);
     end
 }
 
@@ -469,29 +396,28 @@ fn seek_whole(
     ensures { SoughtWhole grid floor.now trip (bound_by bound.capacity columns.now bound.node bound.carrier bound.bar) layers.old layers.new result }
 {
     let bearing = marks::mark_all(layers, grid, trip.horizon, columns, bound);
-    let crossing = bearing.crossing;
-    seek_by(floor, grid, trip, trip.horizon, crossing, layers)
+    seek_by(floor, grid, trip, trip.horizon, bearing.crossing, layers)
 }
 
 // What is found by step `soon` is the answer, unless the route may end later.
+#[tactic(auto, unfolding(crate::specs::Post::is_answer))]
 fn is_answer(end: u8, soon: usize, horizon: usize) -> bool
     ensures { result ≡ is_answer end soon horizon }
 {
     end != LATER || soon == horizon
 }
 
-// What an end tells.
-fn end_told(end: u8) -> Sought
+// What an end tells: a cost, or that there is no way.
+#[tactic(auto, unfolding(crate::specs::Post::end_told))]
+fn end_told(end: u8) -> Option<usize>
     ensures { result ≡ end_told end }
 {
-    if LATER <= end {
-        return Sought::Nothing;
-    }
-    Sought::Cost(end as usize)
+    (end < LATER).then_some(end as usize)
 }
 
-// Rule 2: whether a carrier has a route under the bars that bind it at a node and a new one, and its least cost. The layers then hold
-// what is wanted to read the route off (`writer::write_route`).
+// Rule 2: the least cost of a carrier's routes under the bars that bind it at a node and a new one, if it has any. The layers then hold
+// what is wanted to read the route off (`writer::write_route`). The hall's bytes and the grid stay two: the bytes are read once,
+// for the floor, and the grid goes on alone.
 pub fn seek_route(
     hall: &[u8],
     grid: Grid,
@@ -499,7 +425,7 @@ pub fn seek_route(
     columns: &[u16],
     bound: Bound,
     layers: &mut [u8],
-) -> Sought
+) -> Option<usize>
     requires grid_and_layers { RightGrid grid hall.now × Layered grid.width grid.height trip.horizon layers.old }
     requires trip_and_records { (trip.start < grid.width * grid.height) × (trip.goal < grid.width * grid.height) × Falls bound.capacity columns.now bound.node }
     ensures { SoughtRoute (lent_hall grid hall.now) (bound_by bound.capacity columns.now bound.node bound.carrier bound.bar) trip.start trip.goal trip.horizon layers.old layers.new result }
@@ -507,9 +433,8 @@ pub fn seek_route(
     let mut floor = [0; shuts::SHUTS];
     shuts::lay_floor(hall, grid, &mut floor);
     let bearing = marks::mark_all(layers, grid, trip.horizon, columns, bound);
-    let crossing = bearing.crossing;
     let soon = soon_by(grid.width, trip, bearing.until);
-    let end = seek_by(&floor, grid, trip, soon, crossing, layers);
+    let end = seek_by(&floor, grid, trip, soon, bearing.crossing, layers);
     if is_answer(end, soon, trip.horizon) {
         return end_told(end);
     }

@@ -22,6 +22,15 @@ same_set n xs ys i a l s =
 
 -- ---- a table cleared
 
+pub zeroed-length : (xs ys : List ℕ) (i : ℕ) → i ≤ length xs → ys ≡ zeroed i xs → length ys ≡ length xs
+unfolding zeroed
+zeroed-length xs ys i l e = rw e (simp (length-append, length-replicate, length-drop) (omega arith))
+
+-- what `clear` ensures with the zero 0, of bytes and of words
+pub cleared_zeroed : (n : ℕ) (xs : List ℕ) → replicate n 0 ++ drop n xs ≡ zeroed n xs
+unfolding zeroed
+cleared_zeroed n xs = refl
+
 pub zeroed_same : (n : ℕ) (xs ys : List ℕ) → SameFrom n xs ys → zeroed n ys ≡ zeroed n xs
 unfolding zeroed
 zeroed_same n xs ys same =

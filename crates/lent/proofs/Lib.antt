@@ -1,4 +1,3 @@
-pub mod Copies
 pub mod Keeping
 pub mod MadeLaws
 pub mod Wrong

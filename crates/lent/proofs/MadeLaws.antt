@@ -1,16 +1,12 @@
 -- A table that is made entry by entry, upwards: what is still to be made is as it was. Assumes nothing.
-use Prim.Native.Nat.{ℕ, ◌+◌, ◌≤◌, ◌<◌}
+use Prim.Native.Nat.{ℕ, ◌+◌, ◌<◌}
 use native.Mathlib.Omega.{arith}
 use native.Mathlib.Decide.{ℕ_discrete}
-use mathlib.Core.Path.{◌≡◌, refl, ap, subst, ◌∙◌}
+use mathlib.Core.Path.{◌≡◌, refl, subst, ◌∙◌}
 use mathlib.Core.List.{List}
 use lib.ListN.{length, get_or, set, length-set}
 use lib.Seq.{get_or-set_same, get_or-set_other}
-use Rattle.lent.specs.Lent.{SameFrom}
 use Rattle.lent.specs.Made.{Made}
-
-pub made_none : (base : ℕ) (byte : ℕ → ℕ → ℕ) (a : List ℕ) → Made base 0 byte a a
-made_none base byte a = record { long = refl; made = λ v h. absurd (omega arith); under = λ x l. refl; over = λ x l. refl }
 
 -- nothing is made of what is made as it was
 pub made_same : (base n : ℕ) (byte : ℕ → ℕ → ℕ) (a : List ℕ) → ((v : ℕ) → v < n → get_or a (base + v) 0 ≡ byte v (get_or a (base + v) 0)) → Made base n byte a a
@@ -18,10 +14,6 @@ made_same base n byte a same = record { long = refl; made = same; under = λ x l
 
 pub made_all : (base k n : ℕ) (byte : ℕ → ℕ → ℕ) (a b : List ℕ) → Made base k byte a b → k ≡ n → Made base n byte a b
 made_all base k n byte a b m e = subst (λ x. Made base x byte a b) e m
-
--- another name of what is made
-pub made_as : (base n : ℕ) (byte bytf : ℕ → ℕ → ℕ) (a b : List ℕ) → Made base n byte a b → ((v : ℕ) → v < n → byte v (get_or a (base + v) 0) ≡ bytf v (get_or a (base + v) 0)) → Made base n bytf a b
-made_as base n byte bytf a b m same = record { long = m.long; made = λ v h. m.made v h ∙ same v h; under = m.under; over = m.over }
 
 -- the next entry is still as it was
 pub made_next : (base k : ℕ) (byte : ℕ → ℕ → ℕ) (a b : List ℕ) → Made base k byte a b → get_or b (base + k) 0 ≡ get_or a (base + k) 0
@@ -40,16 +32,3 @@ made_more base k byte a b m room x e =
     here : (v : ℕ) → v < k + 1 → Dec (v ≡ k) → get_or (set b (base + k) x) (base + v) 0 ≡ byte v (get_or a (base + v) 0)
     here v h (yes q) = rw q (get_or-set_same b (base + k) x 0 (omega (arith, m.long)) ∙ e)
     here v h (no n) = get_or-set_other b (base + k) (base + v) x 0 (λ q. n (omega arith)) ∙ m.made v (omega (arith, n))
-
--- made twice over
-pub made_twice : (base n : ℕ) (byte bytf : ℕ → ℕ → ℕ) (a b c : List ℕ) → Made base n byte a b → Made base n bytf b c → Made base n (λ v x. bytf v (byte v x)) a c
-made_twice base n byte bytf a b c m k =
-    record {
-      long = k.long ∙ m.long;
-      made = λ v h. k.made v h ∙ ap (bytf v) (m.made v h);
-      under = λ x h. k.under x h ∙ m.under x h;
-      over = λ x h. k.over x h ∙ m.over x h;
-    }
-
-pub made_kept : (base n end : ℕ) (byte : ℕ → ℕ → ℕ) (a b : List ℕ) → Made base n byte a b → base + n ≤ end → SameFrom end a b
-made_kept base n end byte a b m l = record { long = m.long; rest = λ x h. m.over x (omega arith) }

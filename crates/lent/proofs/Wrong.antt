@@ -8,7 +8,7 @@ use lib.ListN.{get_or, take, drop}
 use lib.Seq.{paste}
 use Rattle.lent.specs.Lent.{zeroed}
 
--- ---- clear_words and clear_bytes, whose contracts are one: two of three entries
+-- ---- clear, of bytes and of words, whose contracts at the zero 0 are one (`cleared_zeroed`): two of three entries
 
 -- one entry too many
 pub cleared_too_far : 0 ∷ 0 ∷ 0 ∷ [] ≡ zeroed 2 (7 ∷ 8 ∷ 9 ∷ []) → ⊥

@@ -3,170 +3,74 @@
 // check and of the meeting check, then an empty line.
 #![tactic(auto)]
 
-ghost use Rattle.std.specs.Prelude.{◌≤◌, ◌≡◌, take};
-ghost use Rattle.job.specs.Team.{job_of};
-ghost use Rattle.carriers.specs.Lent.{records_team};
-ghost use Rattle.routes.specs.Check.{route_verdict};
-ghost use Rattle.clashes.specs.Check.{meeting_verdict};
-ghost use Rattle.planner.specs.Post.{Planned};
-
 use carriers::Carrier;
-use clashes::MeetingVerdict;
-use job::Team;
-use planner::Answer;
-use routes::RouteVerdict;
 use std::io;
 
-// Three records by value, the first `count` of them lent to the planner.
-fn plan_lent(
-    hall: &[u8],
+// Open floors.
+#[derive(Clone, Copy)]
+struct Floor {
+    hall: &'static [u8],
     width: usize,
     height: usize,
-    carriers: [Carrier; 3],
-    count: usize,
-    h: usize,
-    n: usize,
-    columns: &mut [u16],
-    plans: &mut [u8],
-    layers: &mut [u8],
-    output: &mut [u8],
-) -> Answer
-    requires { count ≤ 3 }
-    ensures { Planned (job_of width height hall.now (records_team (take count carriers)) h) n (record { columns = columns.old; plans = plans.old; layers = layers.old; output = output.old }) result (record { columns = columns.new; plans = plans.new; layers = layers.new; output = output.new }) }
-{
-    entry::plan(
-        hall,
-        width,
-        height,
-        &carriers[..count],
-        h,
-        n,
-        columns,
-        plans,
-        layers,
-        output,
-    )
 }
 
-// The same, lent to the route check.
-fn routes_lent(
-    hall: &[u8],
-    width: usize,
-    height: usize,
-    carriers: [Carrier; 3],
-    count: usize,
-    h: usize,
-    plan: &[u8],
-) -> RouteVerdict
-    requires { count ≤ 3 }
-    ensures { result ≡ route_verdict (job_of width height hall.now (records_team (take count carriers)) h) plan.now }
-{
-    entry::check_routes(hall, width, height, &carriers[..count], h, plan)
-}
+const TWO_CELLS: Floor = Floor {
+    hall: b"..",
+    width: 2,
+    height: 1,
+};
 
-// And to the meeting check.
-fn meetings_lent(
-    hall: &[u8],
-    width: usize,
-    height: usize,
-    carriers: [Carrier; 3],
-    count: usize,
-    h: usize,
-    plan: &[u8],
-) -> MeetingVerdict
-    requires { count ≤ 3 }
-    ensures { result ≡ meeting_verdict (job_of width height hall.now (records_team (take count carriers)) h) plan.now }
-{
-    entry::check_meetings(hall, width, height, &carriers[..count], h, plan)
-}
+const ROW: Floor = Floor {
+    hall: b"...",
+    width: 3,
+    height: 1,
+};
 
-// The lent carriers as the lines name them.
-fn team_of(carriers: [Carrier; 3], count: usize) -> Team {
-    let starts = [
-        carriers[0].start,
-        carriers[1].start,
-        carriers[2].start,
-        0,
-        0,
-        0,
-        0,
-        0,
-    ];
-    let goals = [
-        carriers[0].goal,
-        carriers[1].goal,
-        carriers[2].goal,
-        0,
-        0,
-        0,
-        0,
-        0,
-    ];
-    let slips = [
-        carriers[0].slip,
-        carriers[1].slip,
-        carriers[2].slip,
-        0,
-        0,
-        0,
-        0,
-        0,
-    ];
-    Team {
-        starts,
-        goals,
-        slips,
-        count,
-    }
-}
+const SQUARE: Floor = Floor {
+    hall: b".........",
+    width: 3,
+    height: 3,
+};
 
-fn show_number(rt: &impl Print, word: &[u8], number: usize) -> io::Result<()> {
-    rt.write_all(word)?;
-    println!(rt; "{number}")
-}
+const TWO_ROWS: Floor = Floor {
+    hall: b"........",
+    width: 4,
+    height: 2,
+};
 
-// Both checks on a plan.
-fn show_checks(
-    rt: &impl Print,
-    hall: &[u8],
-    width: usize,
-    height: usize,
-    carriers: [Carrier; 3],
-    count: usize,
-    h: usize,
-    plan: &[u8],
-) -> io::Result<()>
-    requires { count ≤ 3 }
-{
-    let routes = told::route_told(routes_lent(hall, width, height, carriers, count, h, plan));
-    show_number(rt, b"routes ", routes.number)?;
-    let meetings = told::meeting_told(meetings_lent(hall, width, height, carriers, count, h, plan));
-    show_number(rt, b"meetings ", meetings.number)
+const FOUR_BY_FOUR: Floor = Floor {
+    hall: b"................",
+    width: 4,
+    height: 4,
+};
+
+const FIVE_BY_THREE: Floor = Floor {
+    hall: b"...............",
+    width: 5,
+    height: 3,
+};
+
+// From a start to a goal, with a slip.
+fn goes(start: u8, goal: u8, slip: u8) -> Carrier {
+    Carrier { start, goal, slip }
 }
 
 // Columns of the greatest length for N = 128, and plans of that for N = 16: for N = 128 they are enough here.
-fn show(
-    rt: &impl Print,
-    hall: &[u8],
-    width: usize,
-    height: usize,
-    carriers: [Carrier; 3],
-    count: usize,
-    h: usize,
-    n: usize,
-) -> io::Result<()>
-    requires { count ≤ 3 }
-{
+fn show(rt: &impl Print, floor: Floor, carriers: &[Carrier], h: usize, n: usize) -> io::Result<()> {
+    let Floor {
+        hall,
+        width,
+        height,
+    } = floor;
     let mut columns = [0u16; 1024];
     let mut plans = [0u8; 8192];
     let mut layers = [0u8; 32768];
     let mut output = [0u8; 512];
-    let answer = plan_lent(
+    let answer = entry::plan(
         hall,
         width,
         height,
         carriers,
-        count,
         h,
         n,
         &mut columns,
@@ -174,86 +78,46 @@ fn show(
         &mut layers,
         &mut output,
     );
+    let team = carriers::team_of_records(carriers);
     let mut out = [0u8; 4096];
-    let end = lines::answer_lines(answer, team_of(carriers, count), h, &output, &mut out);
+    let end = lines::answer_lines(answer, team, h, &output, &mut out);
     rt.write_all(&out[..end])?;
-    show_checks(rt, hall, width, height, carriers, count, h, &output)?;
-    rt.write_all(b"\n")
-}
-
-// From a start to a goal, with a slip.
-fn goes(start: u8, goal: u8, slip: u8) -> Carrier {
-    Carrier { start, goal, slip }
-}
-
-fn show_pair(
-    rt: &impl Print,
-    hall: &[u8],
-    width: usize,
-    height: usize,
-    one: Carrier,
-    two: Carrier,
-    h: usize,
-    n: usize,
-) -> io::Result<()> {
-    show(rt, hall, width, height, [one, two, goes(0, 0, 0)], 2, h, n)
+    let verdict = entry::check_routes(hall, width, height, carriers, h, &output);
+    let routes = told::route_told(verdict).number;
+    let verdict = entry::check_meetings(hall, width, height, carriers, h, &output);
+    let meetings = told::meeting_told(verdict).number;
+    println!(rt; "routes {routes}\nmeetings {meetings}\n")
 }
 
 fn main(rt: HostRuntime) -> io::Result<()> {
     // 3 by 3, 3→5 and 1→7, H 4: slips 0 with N 3 and N 2, and slips 1.
-    show_pair(&rt, b".........", 3, 3, goes(3, 5, 0), goes(1, 7, 0), 4, 3)?;
-    show_pair(&rt, b".........", 3, 3, goes(3, 5, 0), goes(1, 7, 0), 4, 2)?;
-    show_pair(&rt, b".........", 3, 3, goes(3, 5, 1), goes(1, 7, 1), 4, 3)?;
+    show(&rt, SQUARE, &[goes(3, 5, 0), goes(1, 7, 0)], 4, 3)?;
+    show(&rt, SQUARE, &[goes(3, 5, 0), goes(1, 7, 0)], 4, 2)?;
+    show(&rt, SQUARE, &[goes(3, 5, 1), goes(1, 7, 1)], 4, 3)?;
     // Width 3, height 1, 0→2 and 2→0, slips 0, H 2.
-    show_pair(&rt, b"...", 3, 1, goes(0, 2, 0), goes(2, 0, 0), 2, 8)?;
+    show(&rt, ROW, &[goes(0, 2, 0), goes(2, 0, 0)], 2, 8)?;
     // Width 2, height 1, 0→1 and 1→0, slips 0, H 1.
-    show_pair(&rt, b"..", 2, 1, goes(0, 1, 0), goes(1, 0, 0), 1, 8)?;
+    show(&rt, TWO_CELLS, &[goes(0, 1, 0), goes(1, 0, 0)], 1, 8)?;
     // Width 3, height 1, 0→1 and 1→2: slips 0 and 1 with H 1, slips 1 with H 2.
-    show_pair(&rt, b"...", 3, 1, goes(0, 1, 0), goes(1, 2, 0), 1, 8)?;
-    show_pair(&rt, b"...", 3, 1, goes(0, 1, 1), goes(1, 2, 1), 1, 8)?;
-    show_pair(&rt, b"...", 3, 1, goes(0, 1, 1), goes(1, 2, 1), 2, 8)?;
+    show(&rt, ROW, &[goes(0, 1, 0), goes(1, 2, 0)], 1, 8)?;
+    show(&rt, ROW, &[goes(0, 1, 1), goes(1, 2, 1)], 1, 8)?;
+    show(&rt, ROW, &[goes(0, 1, 1), goes(1, 2, 1)], 2, 8)?;
     // Width 4, height 2, 6→2 and 0→3, slips 0, H 3.
-    show_pair(&rt, b"........", 4, 2, goes(6, 2, 0), goes(0, 3, 0), 3, 8)?;
+    show(&rt, TWO_ROWS, &[goes(6, 2, 0), goes(0, 3, 0)], 3, 8)?;
     // Document 02, P1: one start, one goal, both, and a table too short: with N 129 the columns need 1,032 entries, and 1,024 are lent.
-    show_pair(&rt, b"...", 3, 1, goes(0, 1, 0), goes(0, 2, 0), 2, 8)?;
-    show_pair(&rt, b"...", 3, 1, goes(0, 2, 0), goes(1, 2, 0), 2, 8)?;
-    show_pair(&rt, b"...", 3, 1, goes(0, 2, 0), goes(0, 2, 0), 2, 8)?;
-    show_pair(&rt, b"...", 3, 1, goes(0, 1, 0), goes(1, 2, 0), 1, 129)?;
+    show(&rt, ROW, &[goes(0, 1, 0), goes(0, 2, 0)], 2, 8)?;
+    show(&rt, ROW, &[goes(0, 2, 0), goes(1, 2, 0)], 2, 8)?;
+    show(&rt, ROW, &[goes(0, 2, 0), goes(0, 2, 0)], 2, 8)?;
+    show(&rt, ROW, &[goes(0, 1, 0), goes(1, 2, 0)], 1, 129)?;
     // Document 02, P2: 4 by 4, 4→7 and 1→13, and 5 by 3, 5→9 and 2→12, slips 2, H 10.
-    show_pair(
-        &rt,
-        b"................",
-        4,
-        4,
-        goes(4, 7, 2),
-        goes(1, 13, 2),
-        10,
-        16,
-    )?;
-    show_pair(
-        &rt,
-        b"...............",
-        5,
-        3,
-        goes(5, 9, 2),
-        goes(2, 12, 2),
-        10,
-        16,
-    )?;
+    show(&rt, FOUR_BY_FOUR, &[goes(4, 7, 2), goes(1, 13, 2)], 10, 16)?;
+    show(&rt, FIVE_BY_THREE, &[goes(5, 9, 2), goes(2, 12, 2)], 10, 16)?;
     // Document 02, P3: 4 by 2, 0→3 and 3→0, H 8, slips 0 and 1, then 1 and 0; width 3, height 1, 0→2 and 2→0, slips 0 and 1, H 6; 3 by 3,
     // 3→5, 1→7 and 8→0, slips 2, 0 and 1, H 10; and a slip of 5, which is wrong.
-    show_pair(&rt, b"........", 4, 2, goes(0, 3, 0), goes(3, 0, 1), 8, 128)?;
-    show_pair(&rt, b"........", 4, 2, goes(0, 3, 1), goes(3, 0, 0), 8, 128)?;
-    show_pair(&rt, b"...", 3, 1, goes(0, 2, 0), goes(2, 0, 1), 6, 128)?;
-    show(
-        &rt,
-        b".........",
-        3,
-        3,
-        [goes(3, 5, 2), goes(1, 7, 0), goes(8, 0, 1)],
-        3,
-        10,
-        128,
-    )?;
-    show_pair(&rt, b"...", 3, 1, goes(0, 1, 0), goes(1, 2, 5), 1, 8)
+    show(&rt, TWO_ROWS, &[goes(0, 3, 0), goes(3, 0, 1)], 8, 128)?;
+    show(&rt, TWO_ROWS, &[goes(0, 3, 1), goes(3, 0, 0)], 8, 128)?;
+    show(&rt, ROW, &[goes(0, 2, 0), goes(2, 0, 1)], 6, 128)?;
+    let three = [goes(3, 5, 2), goes(1, 7, 0), goes(8, 0, 1)];
+    show(&rt, SQUARE, &three, 10, 128)?;
+    show(&rt, ROW, &[goes(0, 1, 0), goes(1, 2, 5)], 1, 8)
 }

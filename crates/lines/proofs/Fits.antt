@@ -9,6 +9,7 @@ use mathlib.Core.Path.{◌≡◌, sym, ap, ◌∙◌}
 use lib.Dec.{T, eqb, ltb, eqb→eq, ltb→lt}
 use lib.ListN.{length, get_or, take, drop, length-append, length-take}
 use lib.Seq.{get_or-take, take_at}
+use Rattle.std.specs.Prelude.{Ok, Err}
 use Rattle.lists.specs.Lists.{each}
 use Rattle.lists.proofs.Tests.{and_both}
 use Rattle.hall.proofs.HallCode.{area_small}
@@ -19,10 +20,9 @@ use Rattle.job.specs.declared.Told.{Told}
 use Rattle.job.proofs.Accepted.{Facts, accepted_facts}
 use Rattle.routes.specs.Route.{Lawful, cell_of, cost, route_in}
 use Rattle.routes.proofs.Right.{lawful_opens}
-use Rattle.book.specs.Book.{book_number, book_verdict, if_good, body_of}
+use Rattle.book.specs.Book.{BookVerdict, book_number, book_verdict, if_good, body_of}
 use Rattle.book.specs.Parts.{horizon_in}
-use Rattle.book.specs.declared.BookVerdict.{BookVerdict}
-use Rattle.book.specs.declared.BookVerdict.TheVariants.{Good, NoContents, WrongKinds, WrongBodies, WrongLengths, NoKind}
+use Rattle.book.specs.declared.BookRefusal.TheVariants.{NoContents, WrongKinds, WrongBodies, WrongLengths, NoKind}
 use Rattle.tree.specs.Plan.{route_of}
 use Rattle.tables.specs.Tables.{Tables}
 use Rattle.tables.proofs.Held.{route_held}
@@ -136,12 +136,12 @@ unfolding book_text if_good
 text_fits book n ts = go (book_verdict book)
   where
     go : (v : BookVerdict) → length (if_good v (result_text book (planned (job_in book) n ts)) (number_line answer_word (book_number v))) ≤ 2296
-    go Good = result_fits book n ts
-    go NoContents = omega (arith, line_fits answer_word 11 (omega arith))
-    go WrongKinds = omega (arith, line_fits answer_word 12 (omega arith))
-    go WrongBodies = omega (arith, line_fits answer_word 13 (omega arith))
-    go WrongLengths = omega (arith, line_fits answer_word 14 (omega arith))
-    go NoKind = omega (arith, line_fits answer_word 15 (omega arith))
+    go (Ok tt) = result_fits book n ts
+    go (Err NoContents) = omega (arith, line_fits answer_word 11 (omega arith))
+    go (Err WrongKinds) = omega (arith, line_fits answer_word 12 (omega arith))
+    go (Err WrongBodies) = omega (arith, line_fits answer_word 13 (omega arith))
+    go (Err WrongLengths) = omega (arith, line_fits answer_word 14 (omega arith))
+    go (Err NoKind) = omega (arith, line_fits answer_word 15 (omega arith))
 
 -- what `book_lines` leaves on a page with room for that: the whole text, and then what stood there
 pub page_filled : (book : List ℕ) (n : ℕ) (ts after : Tables) (lent given : List ℕ) (r : ℕ) → Printed (book_text book n ts) (book_tables book n ts) lent r after given → 2296 ≤ length lent

@@ -8,17 +8,16 @@ use mathlib.Core.Logic.{◌⊎◌, inl, inr}
 use mathlib.Core.Path.{◌≡◌, sym, ap, ◌∙◌}
 use lib.ListN.{length, get_or, drop, length-take, length-replicate}
 use lib.Seq.{take_at, drop_at}
+use Rattle.std.specs.Prelude.{Ok, Err}
 use Rattle.hall.proofs.HallCode.{area_small, layers_small}
 use Rattle.job.specs.Job.{Job, plan_length, wrong_capacity}
 use Rattle.job.specs.Verdict.{judge_with}
-use Rattle.job.specs.declared.Verdict.TheVariants.{Accepted}
 use Rattle.job.proofs.Accepted.{accepted_facts, plan_small}
 use Rattle.tables.specs.Tables.{Tables, plans_length, layers_length, LongTables}
 use Rattle.planner.specs.Answer.{planned, answer_told}
 use Rattle.planner.proofs.Known.{known, numbered}
-use Rattle.book.specs.Book.{book_number, book_verdict, if_good}
-use Rattle.book.specs.declared.BookVerdict.{BookVerdict}
-use Rattle.book.specs.declared.BookVerdict.TheVariants.{Good, NoContents, WrongKinds, WrongBodies, WrongLengths, NoKind}
+use Rattle.book.specs.Book.{BookVerdict, book_number, book_verdict, if_good}
+use Rattle.book.specs.declared.BookRefusal.TheVariants.{NoContents, WrongKinds, WrongBodies, WrongLengths, NoKind}
 use Rattle.text.specs.Text.{digits_within, digits}
 use Rattle.text.proofs.TextLaws.{digits_one}
 use Rattle.lines.specs.Lines.{answer_word, number_line, told_text}
@@ -29,7 +28,7 @@ use Rattle.lines.proofs.Fits.{page_filled}
 
 -- ---- the tables
 
-long_enough : (job : Job) → judge_with (wrong_capacity 128) job ≡ Accepted → LongTables job 128 program_tables
+long_enough : (job : Job) → judge_with (wrong_capacity 128) job ≡ Ok tt → LongTables job 128 program_tables
 long_enough job accepted =
     let facts = accepted_facts (wrong_capacity 128) job accepted in
     let plan : plan_length job ≤ 512 = plan_small facts.count_most facts.horizon_most in
@@ -69,14 +68,14 @@ unfolding program_text book_text if_good result_text told_text number_line digit
 seven_never_printed book rest = go (book_verdict book)
   where
     go : (v : BookVerdict) → if_good v (result_text book (planned (job_in book) 128 program_tables)) (number_line answer_word (book_number v)) ≡ number_line answer_word 7 ++ rest → ⊥
-    go Good e =
+    go (Ok tt) e =
         let answer = (planned (job_in book) 128 program_tables).answer in
         never_seven book (only_seven (answer_told answer).number _ rest (numbered (job_in book) 128 program_tables answer (known (job_in book) 128 program_tables)) e)
-    go NoContents e = let z : ◌≡◌ {A = ℕ} 49 55 = ap (λ (text : List ℕ). get_or text 7 0) e in omega arith
-    go WrongKinds e = let z : ◌≡◌ {A = ℕ} 49 55 = ap (λ (text : List ℕ). get_or text 7 0) e in omega arith
-    go WrongBodies e = let z : ◌≡◌ {A = ℕ} 49 55 = ap (λ (text : List ℕ). get_or text 7 0) e in omega arith
-    go WrongLengths e = let z : ◌≡◌ {A = ℕ} 49 55 = ap (λ (text : List ℕ). get_or text 7 0) e in omega arith
-    go NoKind e = let z : ◌≡◌ {A = ℕ} 49 55 = ap (λ (text : List ℕ). get_or text 7 0) e in omega arith
+    go (Err NoContents) e = let z : ◌≡◌ {A = ℕ} 49 55 = ap (λ (text : List ℕ). get_or text 7 0) e in omega arith
+    go (Err WrongKinds) e = let z : ◌≡◌ {A = ℕ} 49 55 = ap (λ (text : List ℕ). get_or text 7 0) e in omega arith
+    go (Err WrongBodies) e = let z : ◌≡◌ {A = ℕ} 49 55 = ap (λ (text : List ℕ). get_or text 7 0) e in omega arith
+    go (Err WrongLengths) e = let z : ◌≡◌ {A = ℕ} 49 55 = ap (λ (text : List ℕ). get_or text 7 0) e in omega arith
+    go (Err NoKind) e = let z : ◌≡◌ {A = ℕ} 49 55 = ap (λ (text : List ℕ). get_or text 7 0) e in omega arith
 
 -- ---- the page
 

@@ -6,6 +6,7 @@ use mathlib.Core.List.{List, ◌++◌, append-nil}
 use mathlib.Core.Path.{◌≡◌, refl, sym, ap, ◌∙◌}
 use lib.ListN.{length, get_or, take}
 use lib.Seq.{length-take-le}
+use Rattle.std.specs.Prelude.{Ok}
 use Rattle.lists.specs.Lists.{range, each}
 use Rattle.lists.proofs.Ranges.{each_same, each_split}
 use Rattle.job.specs.Job.{Job}
@@ -17,10 +18,7 @@ use Rattle.tables.specs.Tables.{Tables, plan_written}
 use Rattle.tables.proofs.Held.{route_held}
 use Rattle.book.specs.Book.{book_verdict, if_good, body_of}
 use Rattle.book.specs.Parts.{horizon_in}
-use Rattle.book.specs.declared.BookVerdict.TheVariants.{Good}
-use Rattle.planner.specs.Answer.{Result, planned, answer_told}
-use Rattle.planner.specs.declared.Answer.{Answer}
-use Rattle.planner.specs.declared.Answer.TheVariants.{Plan}
+use Rattle.planner.specs.Answer.{Answer, Result, planned, answer_told}
 use Rattle.lines.specs.Lines.{answer_word, sum_word, records_word, number_line, carrier_line, carrier_lines, plan_text, rest_text, told_text}
 use Rattle.lines.specs.Printed.{team_in, job_in, result_text, book_text}
 use Rattle.lines.proofs.Answers.{cost_within, zero_found}
@@ -49,15 +47,15 @@ module _ (book : List ℕ) where
       ∙ each_same _ (λ i. carrier_line i ((job_in book).goal_of i) (route_of rs i)) 0 (job_in book).count
       (λ i a l. ap (carrier_line i ((job_in book).goal_of i)) (route_held (job_in book) rs family output i (omega arith)))
 
-  zero_text : (answer : Answer) (carriers : List ℕ) (s r : ℕ) → answer ≡ Plan s r → told_text (answer_told answer) carriers ≡ number_line answer_word 0 ++ (number_line sum_word s ++ number_line records_word r ++ carriers)
+  zero_text : (answer : Answer) (carriers : List ℕ) (s r : ℕ) → answer ≡ Ok (record { sum = s; records = r }) → told_text (answer_told answer) carriers ≡ number_line answer_word 0 ++ (number_line sum_word s ++ number_line records_word r ++ carriers)
   unfolding told_text rest_text plan_text
   zero_text answer carriers s r e = rw e refl
 
-  good_text : (n : ℕ) (ts : Tables) → book_verdict book ≡ Good → book_text book n ts ≡ result_text book (planned (job_in book) n ts)
+  good_text : (n : ℕ) (ts : Tables) → book_verdict book ≡ Ok tt → book_text book n ts ≡ result_text book (planned (job_in book) n ts)
   unfolding book_text if_good
   good_text n ts good = rw (good, book_text) refl
 
-  pub plan_printed : (n : ℕ) (ts : Tables) → book_verdict book ≡ Good → (answer_told (planned (job_in book) n ts).answer).number ≡ 0
+  pub plan_printed : (n : ℕ) (ts : Tables) → book_verdict book ≡ Ok tt → (answer_told (planned (job_in book) n ts).answer).number ≡ 0
       → (rs : Routes) × LeastPlan (job_in book) rs (total (job_in book) rs)
       × (book_text book n ts ≡ number_line answer_word 0 ++ (number_line sum_word (total (job_in book) rs) ++ number_line records_word (answer_told (planned (job_in book) n ts).answer).records ++ each (λ i. carrier_line i ((job_in book).goal_of i) (route_of rs i)) (range 0 (job_in book).count)))
   unfolding result_text

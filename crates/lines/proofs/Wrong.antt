@@ -6,15 +6,16 @@ use mathlib.Core.List.{List, [], ◌∷◌}
 use mathlib.Core.Path.{◌≡◌, ap, sym, ◌∙◌}
 use lib.ListN.{length, get_or, drop, replicate}
 use lib.Seq.{get_or-take, get_or-drop}
+use Rattle.std.specs.Prelude.{Err}
 use Rattle.lists.specs.Lists.{refuse_if, each}
 use Rattle.routes.specs.Route.{route_in, step_cost, cost}
 use Rattle.book.specs.Book.{no_contents, book_verdict, if_good}
 use Rattle.book.proofs.Example.{printed_book}
 use Rattle.job.specs.Told.{named, counted, too_short}
-use Rattle.job.specs.declared.Verdict.TheVariants.{SharedGoal}
+use Rattle.job.specs.declared.Refusal.TheVariants.{SharedGoal}
 use Rattle.tables.specs.Tables.{Tables}
 use Rattle.planner.specs.Answer.{answer_told}
-use Rattle.planner.specs.declared.Answer.TheVariants.{Refused, Short, Full}
+use Rattle.planner.specs.declared.answer.Denial.TheVariants.{Job as OfJob, Short, Full}
 use Rattle.text.specs.Text.{Page, page, put_byte, put, digits_within, digits}
 use Rattle.lines.specs.Lines.{answer_word, number_line, pair_line, cells_text, cost_line, carrier_line, carrier_lines, plan_text, short_text, rest_text, told_text, holds_no_plan, carriers_text}
 use Rattle.lines.specs.Printed.{book_text, book_tables, Printed}
@@ -55,27 +56,27 @@ length_printed_first carriers given r wrong e = let z : ◌≡◌ {A = ℕ} 110 
 -- ---- answer_lines: for any lines of carriers, so for those of any team and output
 
 -- '8' is 56, at byte 7
-pub seven_printed_as_8 : (carriers given : List ℕ) (r : ℕ) → get_or given 7 0 ≡ 56 → page given r ≡ put (blank 9) (told_text (answer_told (Short 1 4)) carriers) → ⊥
+pub seven_printed_as_8 : (carriers given : List ℕ) (r : ℕ) → get_or given 7 0 ≡ 56 → page given r ≡ put (blank 9) (told_text (answer_told (Err (Short 1 4))) carriers) → ⊥
 unfolding put put_byte digits digits_within number_line short_text rest_text told_text
 seven_printed_as_8 carriers given r wrong e = let z : ◌≡◌ {A = ℕ} 56 55 = sym wrong ∙ ap (λ (p : Page). get_or p.bytes 7 0) e in omega arith
 
 -- 7 printed without what it tells: 'answer 7' has nine bytes, 'table 1' eight more, 'needed 4' nine more
-pub seven_printed_bare : (carriers given : List ℕ) → page given 9 ≡ put (blank 30) (told_text (answer_told (Short 1 4)) carriers) → ⊥
+pub seven_printed_bare : (carriers given : List ℕ) → page given 9 ≡ put (blank 30) (told_text (answer_told (Err (Short 1 4))) carriers) → ⊥
 unfolding put put_byte digits digits_within number_line short_text rest_text told_text
 seven_printed_bare carriers given e = let z : ◌≡◌ {A = ℕ} 9 26 = ap (λ (p : Page). p.at) e in omega arith
 
 -- the length printed for the table: '4' is 52, at byte 15
-pub length_printed_as_table : (carriers given : List ℕ) (r : ℕ) → get_or given 15 0 ≡ 52 → page given r ≡ put (blank 30) (told_text (answer_told (Short 1 4)) carriers) → ⊥
+pub length_printed_as_table : (carriers given : List ℕ) (r : ℕ) → get_or given 15 0 ≡ 52 → page given r ≡ put (blank 30) (told_text (answer_told (Err (Short 1 4))) carriers) → ⊥
 unfolding put put_byte digits digits_within number_line short_text rest_text told_text
 length_printed_as_table carriers given r wrong e = let z : ◌≡◌ {A = ℕ} 52 49 = sym wrong ∙ ap (λ (p : Page). get_or p.bytes 15 0) e in omega arith
 
 -- 16 printed without its pair: 'answer 16' has ten bytes, 'carriers 0 1' thirteen more
-pub sixteen_printed_bare : (carriers given : List ℕ) → page given 10 ≡ put (blank 30) (told_text (answer_told (Refused (SharedGoal 0 1))) carriers) → ⊥
+pub sixteen_printed_bare : (carriers given : List ℕ) → page given 10 ≡ put (blank 30) (told_text (answer_told (Err (OfJob (SharedGoal 0 1)))) carriers) → ⊥
 unfolding put put_byte digits digits_within number_line pair_line rest_text told_text
 sixteen_printed_bare carriers given e = let z : ◌≡◌ {A = ℕ} 10 23 = ap (λ (p : Page). p.at) e in omega arith
 
 -- 'answer 9' has nine bytes, 'records 2' ten more
-pub nine_printed_without_records : (carriers given : List ℕ) → page given 9 ≡ put (blank 30) (told_text (answer_told (Full 2)) carriers) → ⊥
+pub nine_printed_without_records : (carriers given : List ℕ) → page given 9 ≡ put (blank 30) (told_text (answer_told (Err (Full 2))) carriers) → ⊥
 unfolding put put_byte digits digits_within number_line rest_text told_text
 nine_printed_without_records carriers given e = let z : ◌≡◌ {A = ℕ} 9 19 = ap (λ (p : Page). p.at) e in omega arith
 

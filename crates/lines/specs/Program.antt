@@ -1,9 +1,7 @@
 -- Document 01, 'The book of a job': the program 'uses N = 128 and prints'. P3: 'the program reads at most 300 bytes'.
-use Rattle.std.specs.Prelude.{ℕ, ◌≤◌, Bool, List, ◌≡◌, length, take, drop, replicate}
+use Rattle.std.specs.Prelude.{ℕ, ◌≤◌, Bool, List, Ok, ◌≡◌, length, take, drop, replicate}
 use Rattle.job.specs.Verdict.{judge_with}
-use Rattle.job.specs.declared.Verdict.TheVariants.{Accepted}
 use Rattle.book.specs.Book.{book_verdict}
-use Rattle.book.specs.declared.BookVerdict.TheVariants.{Good}
 use Rattle.tables.specs.Tables.{Tables}
 use Rattle.lines.specs.Printed.{job_in, book_text}
 
@@ -25,8 +23,8 @@ pub record ProgramPrinted (book lent : List ℕ) (r : ℕ) (given : List ℕ) : 
 -- [accepted_book_short] 'reads at most 300 bytes': a book whose job is accepted, with N or without, has at most 299. They are 16 of
 -- contents, 2 and a hall of at most 256, 3 for each of at most 8 carriers, and H
 unfoldable pub AcceptedShort : Type 0
-AcceptedShort = (book : List ℕ) (wrongN : Bool) → book_verdict book ≡ Good → judge_with wrongN (job_in book) ≡ Accepted → length book ≤ 299
+AcceptedShort = (book : List ℕ) (wrongN : Bool) → book_verdict book ≡ Ok tt → judge_with wrongN (job_in book) ≡ Ok tt → length book ≤ 299
 
 -- [accepted_book_uncut] so the text of the bytes that are read is the text of the book
 unfoldable pub AcceptedUncut : Type 0
-AcceptedUncut = (book : List ℕ) (wrongN : Bool) → book_verdict book ≡ Good → judge_with wrongN (job_in book) ≡ Accepted → program_text (take 300 book) ≡ program_text book
+AcceptedUncut = (book : List ℕ) (wrongN : Bool) → book_verdict book ≡ Ok tt → judge_with wrongN (job_in book) ≡ Ok tt → program_text (take 300 book) ≡ program_text book

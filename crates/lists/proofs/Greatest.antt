@@ -1,6 +1,5 @@
 -- The greatest of some numbers is at least each of them, and at most what all of them are at most. Assumes nothing.
-use Prim.Native.Nat.{ℕ, zero, suc, ◌+◌, ◌≤◌, ◌<◌, max}
-use native.Mathlib.Numerals.{add-one}
+use Prim.Native.Nat.{ℕ, zero, suc, ◌≤◌, ◌<◌}
 use native.Mathlib.Omega.{arith}
 use native.Mathlib.Decide.{ℕ_discrete}
 use mathlib.Core.Path.{◌≡◌, ap}
@@ -22,8 +21,3 @@ greatest_below (suc n) f b all =
     let rest : greatest n f ≤ b = greatest_below n f b (λ i l. all i (omega arith)) in
     let last : f n ≤ b = all n (omega arith) in
     omega arith
-
--- one more
-pub greatest_next : (n : ℕ) (f : ℕ → ℕ) → greatest (n + 1) f ≡ max (greatest n f) (f n)
-unfolding greatest
-greatest_next n f = rw add-one

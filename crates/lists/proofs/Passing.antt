@@ -5,7 +5,7 @@ use native.Mathlib.Omega.{arith}
 use mathlib.Core.Path.{◌≡◌, refl, sym, subst, ◌∙◌}
 use mathlib.Core.Bool.{Bool, true, false, not, ◌&&◌, ◌||◌}
 use mathlib.Core.List.{List, [], ◌∷◌, ◌++◌, Memᴰ}
-use mathlib.Core.Option.{Option, none, some, some-ne-none}
+use mathlib.Core.Option.{Option, none, some}
 use lib.Dec.{T, eqb, eqb→eq, T_not, not_T}
 use Rattle.lists.specs.Lists.{only, keep, any_of, first_of, Every}
 use lib.ListN.{length, get_or}
@@ -98,14 +98,6 @@ any_kept p x ys =
 -- ---- the first that passes
 
 module _ {A : Type 0} (p : A → Bool) where
-  pub first_here : (x : A) (xs : List A) → p x ≡ true → first_of p (x ∷ xs) ≡ some x
-  unfolding first_of
-  first_here x xs e = rw (e, first_of)
-
-  pub first_next : (x : A) (xs : List A) → p x ≡ false → first_of p (x ∷ xs) ≡ first_of p xs
-  unfolding first_of
-  first_next x xs e = rw (e, first_of)
-
   pub first_in_front : (y : A) (xs ys : List A) → first_of p xs ≡ some y → first_of p (xs ++ ys) ≡ some y
   unfolding first_of
   first_in_front y [] ys e = let z : ◌≡◌ {A = ℕ} 0 1 = cc in absurd (omega arith)
@@ -125,17 +117,6 @@ module _ {A : Type 0} (p : A → Bool) where
         | false ↦ λ h. first_behind xs ys h
       ])
       e
-
-  -- where none is the first, none passes
-  pub first_none : {x : A} (xs : List A) → first_of p xs ≡ none → Memᴰ x xs → T (p x) → ⊥
-  unfolding first_of
-  first_none [] e m t = elim m [ ]
-  first_none {x} (y ∷ xs) e m t = go (p y) (λ q. q) e m (λ f n. first_none xs f n t)
-    where
-      go : (b : Bool) → (T (p y) → T b) → ◌≡◌ {A = Option A} (elim b [ true ↦ some y | false ↦ first_of p xs ]) none → Memᴰ x (y ∷ xs) → (first_of p xs ≡ none → Memᴰ x xs → ⊥) → ⊥
-      go true f e m rest = some-ne-none y e
-      go false f e (Memᴰ.head q) rest = f (subst (λ z. T (p z)) q t)
-      go false f e (Memᴰ.tail n) rest = rest e n
 
   -- what it tells of a list whose entries all have P
   unfoldable pub FirstFact : (A → Type 0) → List A → Option A → Type 0

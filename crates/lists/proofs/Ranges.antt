@@ -7,6 +7,7 @@ use mathlib.Core.Path.{◌≡◌, refl, sym, ap, ◌∙◌}
 use mathlib.Core.Bool.{Bool, true, false}
 use mathlib.Core.List.{List, [], ◌∷◌, ◌++◌, map, append_assoc, Memᴰ}
 use lib.ListN.{length, get_or}
+use Rattle.std.specs.List.{range_with_len}
 use Rattle.lists.specs.Lists.{range, only, keep, each}
 
 -- ---- ranges
@@ -15,6 +16,12 @@ pub range_length : (a n : ℕ) → length (range a n) ≡ n
 unfolding range
 range_length a zero = refl
 range_length a (suc n) = ap suc (range_length (suc a) n)
+
+-- the numbers that a range of Rattle gives
+pub range_listed : (a n : ℕ) → range_with_len a n ≡ range a n
+unfolding range
+range_listed a zero = refl
+range_listed a (suc n) = ap (λ xs. a ∷ xs) (rw add-one (range_listed (suc a) n))
 
 -- from i up to n
 pub range_next : (i n : ℕ) → i < n → range i (n - i) ≡ i ∷ range (i + 1) (n - (i + 1))

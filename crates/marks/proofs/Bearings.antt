@@ -4,7 +4,7 @@ use Prim.Native.Nat.{ℕ, ◌+◌, min, max}
 use native.Mathlib.Nat.{zero-max, max-zero}
 use native.Mathlib.Omega.{arith}
 use mathlib.Core.Path.{◌≡◌, refl}
-use mathlib.Core.Bool.{Bool, false, true, ◌||◌, or_assoc}
+use mathlib.Core.Bool.{Bool, false, true, or_assoc}
 use mathlib.Core.List.{List, [], ◌∷◌, ◌++◌}
 use Rattle.lists.specs.Lists.{any_of}
 use Rattle.lists.proofs.Passing.{any_append}
@@ -17,11 +17,14 @@ use Rattle.marks.specs.declared.Bearing.{Bearing}
 abbrev pub unbarred : Bearing
 unbarred = record { crossing = false; until = 0 }
 
--- ---- both together
+-- as the default is told
+pub none_told : (b : Bearing) → (b.crossing ≡ false) × (b.until ≡ 0) → b ≡ unbarred
+none_told b e = made false 0 e.0 e.1
+  where
+    made : (crossing : Bool) (until : ℕ) → b.crossing ≡ crossing → b.until ≡ until → b ≡ record { crossing = crossing; until = until }
+    made crossing until e f = rw (← e, ← f)
 
-pub both_made : (a b : Bearing) (crossing : Bool) (until : ℕ) → crossing ≡ (a.crossing || b.crossing) → until ≡ max a.until b.until → record { crossing = crossing; until = until } ≡ both_of a b
-unfolding both_of
-both_made a b crossing until e f = rw (e, f)
+-- ---- both together
 
 pub max_assoc : (a b c : ℕ) → max (max a b) c ≡ max a (max b c)
 max_assoc a b c = omega arith

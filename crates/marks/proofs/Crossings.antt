@@ -1,11 +1,10 @@
 -- Marking a crossing: one digit more at its step and cell of the second plane, or nothing where it lies outside or no move leads so.
 -- Where no bar forbids a crossing, there is no digit. Assumes nothing.
-use Prim.Native.Nat.{ℕ, ◌+◌, ◌*◌, ◌/◌, ◌%◌, ◌≤◌, ◌<◌}
-use native.Mathlib.Nat.{mod-lt, div-le_self}
+use Prim.Native.Nat.{ℕ, ◌+◌, ◌*◌, ◌≤◌, ◌<◌}
 use native.Mathlib.Omega.{arith}
 use native.Mathlib.Decide.{ℕ_discrete}
 use mathlib.Core.Path.{◌≡◌, sym, ap, ◌∙◌}
-use mathlib.Core.Bool.{Bool, true, false}
+use mathlib.Core.Bool.{false}
 use mathlib.Core.List.{List, [], ◌∷◌}
 use lib.ListN.{length, get_or, set}
 use lib.Seq.{get_or-set_same, get_or-set_other}
@@ -14,36 +13,15 @@ use Rattle.lists.proofs.Parts.{same_part, same_place}
 use Rattle.lists.proofs.Passing.{any_cons}
 use Rattle.lists.proofs.Tests.{or_fails}
 use Rattle.lent.proofs.Keeping.{same_from, same_set}
-use Rattle.hall.specs.Moves.{move_count}
+use Rattle.std.specs.Prelude.{None, Some}
 use Rattle.routes.specs.declared.Bar.{Bar}
 use Rattle.routes.specs.declared.Bar.TheVariants.{Cross}
 use Rattle.marks.specs.Marks.{stand_mark, digits_of, Marked, crosses}
-use Rattle.marks.specs.Post.{Layered, MarkedMore, MoveTo, leads, with_digit}
+use Rattle.marks.specs.Post.{Layered, MarkedMore, MoveTo, Leading, with_digit}
 use Rattle.marks.proofs.Marking.{stand_crossed, digits_none, digits_not_crossing, digits_crossed, digits_not_crossed, digits_far}
 use Rattle.marks.proofs.More.{more_untouched}
-use Rattle.marks.proofs.OneMove.{others_lead_not}
+use Rattle.marks.proofs.OneMove.{others_lead_not, none_leads, one_leads}
 use Rattle.marks.proofs.Places.{Bounds, bounds}
-
--- ---- looking for the move
-
-pub row_small : (from width : ℕ) → from < 256 → from / width < 256
-row_small from width h = omega (arith, div-le_self from width)
-
-pub col_small : (from width : ℕ) → 1 ≤ width → width ≤ 16 → from % width < 256
-col_small from width h k = let l : from % width < width = mod-lt from (omega arith) in omega arith
-
-module _ (width height from to : ℕ) where
-  pub passed_none : (k : ℕ) → k < 0 → leads width height from to k ≡ false
-  passed_none k h = absurd (omega arith)
-
-  pub passed_more : (m : ℕ) (b : Bool) → ((k : ℕ) → k < m → leads width height from to k ≡ false) → b ≡ leads width height from to m → b ≡ false → (k : ℕ) → k < m + 1 → leads width height from to k ≡ false
-  passed_more m b f l e k h = elim (ℕ_discrete k m) [ yes q ↦ rw q (sym l ∙ e) | no n ↦ f k (omega (arith, n)) ]
-
-  pub move_found : (m : ℕ) (b : Bool) → m < move_count → ((k : ℕ) → k < m → leads width height from to k ≡ false) → b ≡ leads width height from to m → b ≡ true → MoveTo width height from to m
-  move_found m b h f l e = record { listed = omega arith; lands = λ k. sym l ∙ e; passed = f }
-
-  pub move_missing : (m : ℕ) → m ≤ move_count → move_count ≤ m → ((k : ℕ) → k < m → leads width height from to k ≡ false) → MoveTo width height from to m
-  move_missing m h k f = record { listed = h; lands = λ l. absurd (omega arith); passed = f }
 
 -- ---- marking it
 
@@ -58,16 +36,19 @@ module _ (width height h from to step : ℕ) where
   pub cross_outside : (xs : List ℕ) → width * height ≤ from → MarkedMore width height h (Cross from to step ∷ []) xs xs
   cross_outside xs o = untouched xs (λ bars t v l i. digits_not_crossed width height bars t v from to step (λ e f. omega arith))
 
-  pub cross_far : (xs : List ℕ) (r : ℕ) → MoveTo width height from to r → move_count ≤ r → MarkedMore width height h (Cross from to step ∷ []) xs xs
-  cross_far xs r f o = untouched xs (λ bars t v l i. digits_far width height bars t v from to step (λ m k. f.passed m (omega arith)))
+  pub cross_far : (xs : List ℕ) → MoveTo width height from to None → MarkedMore width height h (Cross from to step ∷ []) xs xs
+  cross_far xs f = untouched xs (λ bars t v l i. digits_far width height bars t v from to step (none_leads width height from to f))
 
-  pub cross_marked : (xs : List ℕ) (r y : ℕ) → Layered width height h xs → step ≤ h → from < width * height → MoveTo width height from to r → r < move_count → y ≡ with_digit (get_or xs ((h + 1) * (width * height) + step * (width * height) + from) 0) r → MarkedMore width height h (Cross from to step ∷ []) xs (set xs ((h + 1) * (width * height) + step * (width * height) + from) y)
-  cross_marked xs r y l k i f o e =
+  pub cross_marked : (xs : List ℕ) (r y : ℕ) → Layered width height h xs → step ≤ h → from < width * height → MoveTo width height from to (Some r) → y ≡ with_digit (get_or xs ((h + 1) * (width * height) + step * (width * height) + from) 0) r → MarkedMore width height h (Cross from to step ∷ []) xs (set xs ((h + 1) * (width * height) + step * (width * height) + from) y)
+  cross_marked xs r y l k i f e =
       record {
         marked = λ bars m. record { stands = λ t v p q. stand bars m t v p q; crossings = λ t v p q. crossing bars m t v p q };
         kept = same_set ((h + 1) * (width * height) + (h + 1) * (width * height)) xs xs place y (let below = b.below in omega arith) (same_from ((h + 1) * (width * height) + (h + 1) * (width * height)) xs);
       }
     where
+      found : Leading width height from to r
+      found = one_leads width height from to r f
+
       place : ℕ
       place = (h + 1) * (width * height) + step * (width * height) + from
 
@@ -90,7 +71,7 @@ module _ (width height h from to step : ℕ) where
                 (get_or-set_same xs ((h + 1) * (width * height) + step * (width * height) + from) y 0 b.second
                 ∙ e
                 ∙ ap (λ (x : ℕ). with_digit x r) (m.crossings step from k i)
-                ∙ sym (digits_crossed width height bars from to step r o (f.lands o) (others_lead_not width height from to r f o)))
+                ∙ sym (digits_crossed width height bars from to step r found.listed found.lands (others_lead_not width height from to r found)))
             | no n ↦
                 get_or-set_other xs ((h + 1) * (width * height) + step * (width * height) + from) ((h + 1) * (width * height) + t * (width * height) + v) y 0 (λ w. n (omega arith))
                 ∙ m.crossings t v p q

@@ -4,10 +4,8 @@ use Prim.Native.Nat.{ℕ, zero, suc, ◌+◌, ◌/◌, ◌%◌, ◌^◌, ◌<◌
 use native.Mathlib.Omega.{arith}
 use mathlib.Core.Path.{◌≡◌, refl, ap, ◌∙◌}
 use mathlib.Core.Bool.{Bool, true, false}
-use mathlib.Core.List.{[], ◌∷◌}
 use borrow.Author.Tests.{eqb-true, eqb-false}
 use lib.Dec.{eqb}
-use lib.ListN.{get_or}
 use Rattle.lists.proofs.Sums.{sum_same, sum_changed}
 use Rattle.hall.specs.Moves.{move_count}
 use Rattle.marks.specs.Marks.{digit}
@@ -51,27 +49,10 @@ digits_kept f g e = sum_same move_count (λ m. digit (g m) m) (λ m. digit (f m)
 
 -- ---- as the code does it, with the weight d of the digit
 
-pub weight : (m : ℕ) → m < move_count → get_or (1 ∷ 2 ∷ 4 ∷ 8 ∷ 16 ∷ []) m 0 ≡ 2 ^ m
-weight zero h = refl
-weight (suc zero) h = refl
-weight (suc (suc zero)) h = refl
-weight (suc (suc (suc zero))) h = refl
-weight (suc (suc (suc (suc zero)))) h = refl
-weight (suc (suc (suc (suc (suc m))))) h = absurd (omega arith)
-
-fits_at : (x m : ℕ) → m < move_count → x < 256 → x / 2 ^ m % 2 ≡ 0 → x + 2 ^ m < 256
+pub fits_at : (x m : ℕ) → m < move_count → x < 256 → x / 2 ^ m % 2 ≡ 0 → x + 2 ^ m < 256
 fits_at x zero h l e = omega arith
 fits_at x (suc zero) h l e = omega arith
 fits_at x (suc (suc zero)) h l e = omega arith
 fits_at x (suc (suc (suc zero))) h l e = omega arith
 fits_at x (suc (suc (suc (suc zero)))) h l e = omega arith
 fits_at x (suc (suc (suc (suc (suc m))))) h l e = absurd (omega arith)
-
-pub digit_fits : (x m d : ℕ) → m < move_count → x < 256 → d ≡ 2 ^ m → x / d % 2 ≡ 0 → x + d < 256
-digit_fits x m d h l e z = rw e (fits_at x m h l (rw e at z))
-
-pub digit_added : (x m d : ℕ) → d ≡ 2 ^ m → x / d % 2 ≡ 0 → x + d ≡ with_digit x m
-digit_added x m d e z = rw e (digit_set_is x (x + 2 ^ m) m (λ k. refl) (λ n. absurd (n (rw e at z))))
-
-pub digit_there : (x m d : ℕ) → d ≡ 2 ^ m → (x / d % 2 ≡ 0 → ⊥) → x ≡ with_digit x m
-digit_there x m d e n = digit_set_is x x m (λ k. absurd (n (rw e k))) (λ k. refl)

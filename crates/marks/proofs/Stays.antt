@@ -23,9 +23,6 @@ pub record Stayed (size cell a t : ℕ) (before after : List ℕ) : Type 0 where
   pub inside : (s : ℕ) → a ≤ s → s < t → get_or after (s * size + cell) 0 ≡ 255
   pub outside : (x : ℕ) → ((s : ℕ) → a ≤ s → s < t → x ≡ s * size + cell → ⊥) → get_or after x 0 ≡ get_or before x 0
 
-pub stayed_none : (size cell a : ℕ) (xs : List ℕ) → Stayed size cell a a xs xs
-stayed_none size cell a xs = record { inside = λ s l k. absurd (omega arith); outside = λ x n. refl }
-
 pub stayed_more : (size cell a t : ℕ) (before xs : List ℕ) → a ≤ t → t * size + cell < length xs → Stayed size cell a t before xs → Stayed size cell a (t + 1) before (set xs (t * size + cell) 255)
 stayed_more size cell a t before xs l i st =
     record {

@@ -1,5 +1,6 @@
 -- What the markers ask and promise: from layers marked for any bars to layers marked for some more in front of them.
-use Rattle.std.specs.Prelude.{ℕ, ◌+◌, ◌*◌, ◌/◌, ◌%◌, ◌^◌, ◌≤◌, ◌<◌, ◌≡◌, Bool, true, false, List, ◌++◌, ◌⊎◌, eqb, length}
+use Rattle.std.specs.Prelude.{ℕ, ◌+◌, ◌*◌, ◌/◌, ◌%◌, ◌^◌, ◌≤◌, ◌<◌, ◌≡◌, Bool, true, false, List, ◌++◌, ◌⊎◌, eqb, length, Option}
+use Rattle.std.specs.List.{find, range_with_len}
 use Rattle.lists.specs.Lists.{any_of}
 use Rattle.lent.specs.Lent.{SameFrom}
 use Rattle.hall.specs.Moves.{landing, move_count}
@@ -34,11 +35,14 @@ pub record BoundAbove (capacity : ℕ) (columns : List ℕ) (x carrier above : �
 abbrev pub leads : ℕ → ℕ → ℕ → ℕ → ℕ → Bool
 leads width height from to m = any_of (eqb to) (landing width height (from / width) (from % width) m)
 
--- the move from one cell to another, or `move_count` where none leads there
-pub record MoveTo (width height from to m : ℕ) : Type 0 where
-  pub listed : m ≤ move_count
-  pub lands : m < move_count → leads width height from to m ≡ true
-  pub passed : (k : ℕ) → k < m → leads width height from to k ≡ false
+-- a move that leads there
+pub record Leading (width height from to m : ℕ) : Type 0 where
+  pub listed : m < move_count
+  pub lands : leads width height from to m ≡ true
+
+-- the first move from one cell to another, or none where none leads there
+unfoldable pub MoveTo : ℕ → ℕ → ℕ → ℕ → Option ℕ → Type 0
+MoveTo width height from to m = m ≡ find (leads width height from to) (range_with_len 0 move_count)
 
 -- a number with one binary digit set
 unfoldable pub with_digit : ℕ → ℕ → ℕ

@@ -11,23 +11,21 @@ use mathlib.Core.Option.{Option, none, some}
 use lib.ListN.{length, get_or}
 use Rattle.hall.proofs.HallCode.{area_small, layers_small}
 use Rattle.job.specs.Job.{Job, plan_length, wrong_capacity}
-use Rattle.job.specs.Verdict.{judge_with}
-use Rattle.job.specs.declared.Verdict.{Verdict}
-use Rattle.job.specs.declared.Verdict.TheVariants.{Accepted}
+use Rattle.job.specs.Verdict.{Verdict, judge_with}
+use Rattle.job.specs.declared.Refusal.{Refusal}
 use Rattle.job.proofs.Accepted.{Facts, accepted_facts, plan_small}
 use Rattle.job.proofs.Due.{open_exact, capacity_exact}
 use Rattle.tree.specs.Tree.{tree}
 use Rattle.tables.specs.Tables.{Tables, plans_length, layers_length, lent_length, needed_length, first_short, FirstShort, LongTables}
 use Rattle.tables.proofs.LongTables.{LengthsFact, lengths_fact, short_not_long, long_exact, short_one}
 use Rattle.children.specs.declared.Task.{Task}
-use Rattle.planner.specs.declared.Answer.{Answer}
-use Rattle.planner.specs.declared.Answer.TheVariants.{Refused, Short}
-use Rattle.planner.specs.declared.Lengths.{Lengths}
-use Rattle.planner.specs.declared.Lengths.TheVariants.{Enough, Lacking}
-use Rattle.planner.specs.Answer.{Result, searched, if_long, enough, planned}
+use Rattle.std.specs.Prelude.{Ok, Err, Result as Either, OnOk, OnErr}
+use Rattle.planner.specs.declared.answer.Denial.{Denial}
+use Rattle.planner.specs.declared.answer.Denial.TheVariants.{Job as OfJob, Short}
+use Rattle.planner.specs.Answer.{Answer, Result, searched, if_long, enough, planned}
 use Rattle.planner.specs.Post.{Planned}
 use Rattle.children.specs.Steps.{job_on, Ready}
-use Rattle.planner.specs.Steps.{job_in, Limits, Roomy, RanFact, lengths_of}
+use Rattle.planner.specs.Steps.{Limits, Roomy, RanFact, lengths_of}
 use Rattle.planner.proofs.Checked.{planned_accepted, planned_refused}
 use Rattle.planner.proofs.Promises.{planned_promised}
 
@@ -37,7 +35,7 @@ pub plans_small : (count h capacity : ℕ) → count ≤ 8 → h ≤ 63 → capa
 plans_small count h capacity l k m = mul-le-mul m (plan_small l k)
 
 -- the length that 7 tells is at most that of the plans of 8 carriers with H 63 and N 1,024
-pub needed_small : (job : Job) (n : ℕ) → judge_with (wrong_capacity n) job ≡ Accepted → (t : ℕ) → needed_length job n t ≤ 524288
+pub needed_small : (job : Job) (n : ℕ) → judge_with (wrong_capacity n) job ≡ Ok tt → (t : ℕ) → needed_length job n t ≤ 524288
 needed_small job n accepted = go
   where
     facts : Facts (wrong_capacity n) job
@@ -55,12 +53,12 @@ needed_small job n accepted = go
 
 -- what the code says of a table that is short, where those before it are long
 module _ (job : Job) (capacity : ℕ) (ts : Tables) where
-  found_short : (o : Option ℕ) (t l : ℕ) → LengthsFact job capacity ts o → FirstShort job capacity ts t → l ≡ needed_length job capacity t → Lacking t l ≡ lengths_of (needed_length job capacity) o
+  found_short : (o : Option ℕ) (t l : ℕ) → LengthsFact job capacity ts o → FirstShort job capacity ts t → l ≡ needed_length job capacity t → Err (Short t l) ≡ lengths_of (needed_length job capacity) o
   unfolding LengthsFact lengths_of
   found_short none t l fact f e = absurd (short_not_long job capacity ts t f fact)
   found_short (some u) t l fact f e = let same : t ≡ u = short_one job capacity ts t u f fact in rw (e, same)
 
-  lacking : (t l : ℕ) → FirstShort job capacity ts t → l ≡ needed_length job capacity t → Lacking t l ≡ lengths_of (needed_length job capacity) (first_short job capacity ts)
+  lacking : (t l : ℕ) → FirstShort job capacity ts t → l ≡ needed_length job capacity t → Err (Short t l) ≡ lengths_of (needed_length job capacity) (first_short job capacity ts)
   lacking t l = found_short (first_short job capacity ts) t l (lengths_fact job capacity ts)
 
   -- a table more is long enough
@@ -77,72 +75,72 @@ module _ (job : Job) (capacity : ℕ) (ts : Tables) where
       go (yes e) = rw e here
       go (no other) = before s (omega (arith, other))
 
-  suffices : LongTables job capacity ts → Enough ≡ lengths_of (needed_length job capacity) (first_short job capacity ts)
+  suffices : LongTables job capacity ts → Ok tt ≡ lengths_of (needed_length job capacity) (first_short job capacity ts)
   unfolding lengths_of
   suffices long = let e : first_short job capacity ts ≡ none = (long_exact job capacity ts).1 long in rw e
 
 module _ (task : Task) (ts : Tables) where
-  -- the hall's bytes do not matter
-  pub short_any : (bytes : List ℕ) → lengths_of (needed_length (job_in task) task.capacity) (first_short (job_in task) task.capacity ts) ≡ lengths_of (needed_length (job_on task bytes) task.capacity) (first_short (job_on task bytes) task.capacity ts)
-  unfolding first_short lengths_of
-  short_any bytes = refl
-
   -- the tests in their order; `stretch` is the length of one plan, `planes` that of the layers
-  abbrev verdict : Lengths
-  verdict = lengths_of (needed_length (job_in task) task.capacity) (first_short (job_in task) task.capacity ts)
+  abbrev verdict : Either (Unit {0}) Denial
+  verdict = lengths_of (needed_length (job_on task) task.capacity) (first_short (job_on task) task.capacity ts)
 
-  pub short_columns : length ts.columns < 8 * task.capacity → Lacking 0 (8 * task.capacity) ≡ verdict
-  short_columns l = lacking (job_in task) task.capacity ts 0 (8 * task.capacity) (record { short = l; first = none_before (job_in task) task.capacity ts }) refl
+  pub short_columns : length ts.columns < 8 * task.capacity → Err (Short 0 (8 * task.capacity)) ≡ verdict
+  short_columns l = lacking (job_on task) task.capacity ts 0 (8 * task.capacity) (record { short = l; first = none_before (job_on task) task.capacity ts }) refl
 
-  module _ (columns-room : 8 * task.capacity ≤ length ts.columns) (stretch : ℕ) (is : stretch ≡ task.team.count * (task.horizon + 1)) where
-    one : (s : ℕ) → s < 1 → needed_length (job_in task) task.capacity s ≤ lent_length ts s
-    one = one_more (job_in task) task.capacity ts 0 (none_before (job_in task) task.capacity ts) columns-room
+  module _ (columns-room : 8 * task.capacity ≤ length ts.columns) (stretch : ℕ) (is : stretch ≡ task.job.team.count * (task.job.horizon + 1)) where
+    one : (s : ℕ) → s < 1 → needed_length (job_on task) task.capacity s ≤ lent_length ts s
+    one = one_more (job_on task) task.capacity ts 0 (none_before (job_on task) task.capacity ts) columns-room
 
-    pub short_plans_lem : length ts.plans < task.capacity * stretch → Lacking 1 (task.capacity * stretch) ≡ verdict
+    pub short_plans_lem : length ts.plans < task.capacity * stretch → Err (Short 1 (task.capacity * stretch)) ≡ verdict
     short_plans_lem l =
-        let k : length ts.plans < plans_length (job_in task) task.capacity = rw is at l in
-        let e : task.capacity * stretch ≡ plans_length (job_in task) task.capacity = rw is refl in
-        lacking (job_in task) task.capacity ts 1 (task.capacity * stretch) (record { short = k; first = one }) e
+        let k : length ts.plans < plans_length (job_on task) task.capacity = rw is at l in
+        let e : task.capacity * stretch ≡ plans_length (job_on task) task.capacity = rw is refl in
+        lacking (job_on task) task.capacity ts 1 (task.capacity * stretch) (record { short = k; first = one }) e
 
     module _ (plans-room : task.capacity * stretch ≤ length ts.plans) where
-      two : (s : ℕ) → s < 2 → needed_length (job_in task) task.capacity s ≤ lent_length ts s
-      two = let room : plans_length (job_in task) task.capacity ≤ length ts.plans = rw is at plans-room in one_more (job_in task) task.capacity ts 1 one room
+      two : (s : ℕ) → s < 2 → needed_length (job_on task) task.capacity s ≤ lent_length ts s
+      two = let room : plans_length (job_on task) task.capacity ≤ length ts.plans = rw is at plans-room in one_more (job_on task) task.capacity ts 1 one room
 
-      module _ (planes : ℕ) (twice : planes ≡ layers_length (job_in task)) where
-        pub short_layers : length ts.layers < planes → Lacking 2 planes ≡ verdict
-        short_layers l = lacking (job_in task) task.capacity ts 2 planes (record { short = omega (arith, twice); first = two }) twice
+      module _ (planes : ℕ) (twice : planes ≡ layers_length (job_on task)) where
+        pub short_layers : length ts.layers < planes → Err (Short 2 planes) ≡ verdict
+        short_layers l = lacking (job_on task) task.capacity ts 2 planes (record { short = omega (arith, twice); first = two }) twice
 
         module _ (layers-room : planes ≤ length ts.layers) where
-          layers_long : layers_length (job_in task) ≤ length ts.layers
+          layers_long : layers_length (job_on task) ≤ length ts.layers
           layers_long = omega (arith, twice)
 
-          pub short_output : length ts.output < stretch → Lacking 3 stretch ≡ verdict
+          short_output : length ts.output < stretch → Err (Short 3 stretch) ≡ verdict
           short_output l =
-              let k : length ts.output < plan_length (job_in task) = rw is at l in
-              lacking (job_in task) task.capacity ts 3 stretch (record { short = k; first = one_more (job_in task) task.capacity ts 2 two layers_long }) is
+              let k : length ts.output < plan_length (job_on task) = rw is at l in
+              lacking (job_on task) task.capacity ts 3 stretch (record { short = k; first = one_more (job_on task) task.capacity ts 2 two layers_long }) is
 
-          pub all_long : stretch ≤ length ts.output → Enough ≡ verdict
+          all_long : stretch ≤ length ts.output → Ok tt ≡ verdict
           all_long l =
-              let plans : plans_length (job_in task) task.capacity ≤ length ts.plans = rw is at plans-room in
-              let output : plan_length (job_in task) ≤ length ts.output = rw is at l in
-              suffices (job_in task) task.capacity ts (record { columns = columns-room; plans = plans; layers = layers_long; output = output })
+              let plans : plans_length (job_on task) task.capacity ≤ length ts.plans = rw is at plans-room in
+              let output : plan_length (job_on task) ≤ length ts.output = rw is at l in
+              suffices (job_on task) task.capacity ts (record { columns = columns-room; plans = plans; layers = layers_long; output = output })
+
+          -- what the last test says
+          pub last_told : (r : Either (Unit {0}) Denial) → OnOk r (stretch ≤ length ts.output) → OnErr r ((length ts.output < stretch) × (r ≡ Err (Short 3 stretch))) → r ≡ verdict
+          last_told (Ok u) long short = all_long long
+          last_told (Err d) long short = short.1 ∙ short_output short.0
 
   -- no table is too short
-  long_by : (o : Option ℕ) → Enough ≡ lengths_of (needed_length (job_in task) task.capacity) o → o ≡ none
+  long_by : (o : Option ℕ) → Ok tt ≡ lengths_of (needed_length (job_on task) task.capacity) o → o ≡ none
   unfolding lengths_of
   long_by none e = refl
   long_by (some t) e = absurd (let z : ◌≡◌ {A = ℕ} 0 1 = cc e in omega arith)
 
-  pub roomy : Enough ≡ lengths_of (needed_length (job_in task) task.capacity) (first_short (job_in task) task.capacity ts) → Roomy task ts.columns ts.plans ts.layers ts.output
+  pub roomy : Ok tt ≡ lengths_of (needed_length (job_on task) task.capacity) (first_short (job_on task) task.capacity ts) → Roomy task ts.columns ts.plans ts.layers ts.output
   roomy e =
-      let l = (long_exact (job_in task) task.capacity ts).0 (long_by (first_short (job_in task) task.capacity ts) e) in
+      let l = (long_exact (job_on task) task.capacity ts).0 (long_by (first_short (job_on task) task.capacity ts) e) in
       record { columns_room = l.columns; plans_room = l.plans; layers_room = l.layers; output_room = l.output }
 
 -- ---- what checks 1 to 6 show
 
-module _ (task : Task) (bytes : List ℕ) (v : Verdict) (wrongN : Bool) (is : v ≡ judge_with wrongN (job_on task bytes)) (of-n : wrongN ≡ wrong_capacity task.capacity) (yes-to : v ≡ Accepted) where
-  facts : Facts (wrong_capacity task.capacity) (job_on task bytes)
-  facts = accepted_facts (wrong_capacity task.capacity) (job_on task bytes) (ap (λ (b : Bool). judge_with b (job_on task bytes)) (sym of-n) ∙ sym is ∙ yes-to)
+module _ (task : Task) (v : Verdict) (wrongN : Bool) (is : v ≡ judge_with wrongN (job_on task)) (of-n : wrongN ≡ wrong_capacity task.capacity) (yes-to : v ≡ Ok tt) where
+  facts : Facts (wrong_capacity task.capacity) (job_on task)
+  facts = accepted_facts (wrong_capacity task.capacity) (job_on task) (ap (λ (b : Bool). judge_with b (job_on task)) (sym of-n) ∙ sym is ∙ yes-to)
 
   pub limits : Limits task
   limits =
@@ -155,7 +153,7 @@ module _ (task : Task) (bytes : List ℕ) (v : Verdict) (wrongN : Bool) (is : v 
         capacity_most = ((capacity_exact task.capacity).0 f.capacity).most;
       }
 
-  pub ready : (layers : List ℕ) → layers_length (job_in task) ≤ length layers → Ready task bytes layers
+  pub ready : (layers : List ℕ) → layers_length (job_on task) ≤ length layers → Ready task layers
   ready layers room =
       let f = facts in
       record {
@@ -170,8 +168,8 @@ module _ (task : Task) (bytes : List ℕ) (v : Verdict) (wrongN : Bool) (is : v 
         count_most = f.count_most;
         capacity_least = ((capacity_exact task.capacity).0 f.capacity).least;
         capacity_most = ((capacity_exact task.capacity).0 f.capacity).most;
-        starts_inside = λ i l. ((open_exact (job_on task bytes) (get_or task.team.starts i 0)).0 (f.start_open i l)).inside;
-        goals_inside = λ i l. ((open_exact (job_on task bytes) (get_or task.team.goals i 0)).0 (f.goal_open i l)).inside;
+        starts_inside = λ i l. ((open_exact (job_on task) (get_or task.job.team.starts i 0)).0 (f.start_open i l)).inside;
+        goals_inside = λ i l. ((open_exact (job_on task) (get_or task.job.team.goals i 0)).0 (f.goal_open i l)).inside;
         layers_long = room;
       }
 
@@ -182,15 +180,12 @@ module _ (job : Job) (capacity : ℕ) (ts : Tables) where
   settled answer after a b = record { told = a; tables = b; promised = rw (a, b) (planned_promised job capacity ts) }
 
   -- what the code found of the lengths is what the definition goes by
-  too_short : (o : Option ℕ) (t l : ℕ) (rest : Result) → Lacking t l ≡ lengths_of (needed_length job capacity) o → if_long job capacity ts o rest ≡ record { answer = Short t l; tables = ts }
+  too_short : (o : Option ℕ) (d : Denial) (rest : Result) → Err d ≡ lengths_of (needed_length job capacity) o → if_long job capacity ts o rest ≡ record { answer = Err d; tables = ts }
   unfolding lengths_of if_long
-  too_short none t l rest e = absurd (let z : ◌≡◌ {A = ℕ} 0 1 = cc e in omega arith)
-  too_short (some u) t l rest e =
-      let table : t ≡ u = cc e in
-      let needed : l ≡ needed_length job capacity u = cc e in
-      rw (table, needed) refl
+  too_short none d rest e = absurd (let z : ◌≡◌ {A = ℕ} 0 1 = cc e in omega arith)
+  too_short (some u) d rest e = let same : d ≡ Short u (needed_length job capacity u) = cc e in rw same refl
 
-  long_enough : (o : Option ℕ) (rest : Result) → Enough ≡ lengths_of (needed_length job capacity) o → if_long job capacity ts o rest ≡ rest
+  long_enough : (o : Option ℕ) (rest : Result) → Ok tt ≡ lengths_of (needed_length job capacity) o → if_long job capacity ts o rest ≡ rest
   unfolding lengths_of if_long
   long_enough none rest e = refl
   long_enough (some u) rest e = absurd (let z : ◌≡◌ {A = ℕ} 0 1 = cc e in omega arith)
@@ -199,23 +194,21 @@ module _ (job : Job) (capacity : ℕ) (ts : Tables) where
     judged : judge_with (wrong_capacity capacity) job ≡ v
     judged = ap (λ (b : Bool). judge_with b job) (sym of-n) ∙ sym is
 
-    pub planned_refusal : (v ≡ Accepted → ⊥) → Planned job capacity ts (Refused v) ts
-    planned_refusal k =
-        let e = planned_refused job capacity ts (λ a. k (sym judged ∙ a)) in
-        settled (Refused v) ts (rw (e, judged) refl) (rw e refl)
+    pub planned_refusal : (r : Refusal) → v ≡ Err r → Planned job capacity ts (Err (OfJob r)) ts
+    planned_refusal r k = let e = planned_refused job capacity ts r (judged ∙ k) in settled (Err (OfJob r)) ts (rw e refl) (rw e refl)
 
-    module _ (yes-to : v ≡ Accepted) where
+    module _ (yes-to : v ≡ Ok tt) where
       is_enough : planned job capacity ts ≡ enough job capacity ts
       is_enough = planned_accepted job capacity ts (judged ∙ yes-to)
 
-      module _ (lengths : Lengths) (found : lengths ≡ lengths_of (needed_length job capacity) (first_short job capacity ts)) where
-        pub planned_short : (t l : ℕ) → lengths ≡ Lacking t l → Planned job capacity ts (Short t l) ts
+      module _ (lengths : Either (Unit {0}) Denial) (found : lengths ≡ lengths_of (needed_length job capacity) (first_short job capacity ts)) where
+        pub planned_short : (d : Denial) → lengths ≡ Err d → Planned job capacity ts (Err d) ts
         unfolding enough
-        planned_short t l e =
-            let s = is_enough ∙ too_short (first_short job capacity ts) t l (searched job capacity ts (tree job capacity)) (sym e ∙ found) in
-            settled (Short t l) ts (rw s refl) (rw s refl)
+        planned_short d e =
+            let s = is_enough ∙ too_short (first_short job capacity ts) d (searched job capacity ts (tree job capacity)) (sym e ∙ found) in
+            settled (Err d) ts (rw s refl) (rw s refl)
 
-        pub planned_ran : lengths ≡ Enough → (answer : Answer) (after : Tables) → RanFact job capacity ts answer after → Planned job capacity ts answer after
+        pub planned_ran : lengths ≡ Ok tt → (answer : Answer) (after : Tables) → RanFact job capacity ts answer after → Planned job capacity ts answer after
         unfolding enough
         planned_ran e answer after f =
             let s = is_enough ∙ long_enough (first_short job capacity ts) (searched job capacity ts (tree job capacity)) (sym e ∙ found) in

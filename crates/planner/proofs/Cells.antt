@@ -27,12 +27,12 @@ use Rattle.tables.proofs.Stretches.{route_at}
 use Rattle.planner.specs.declared.Bars.{Bars}
 use Rattle.children.specs.declared.Task.{Task}
 use Rattle.children.specs.Steps.{job_on, Ready}
-use Rattle.planner.specs.Steps.{job_in, Placed, stay_bars, cross_bars, BarsFit}
+use Rattle.planner.specs.Steps.{Placed, stay_bars, cross_bars, BarsFit}
 
 -- ---- where a node stands in the plans
 
-pub placed : (task : Task) (bytes layers columns plans : List ℕ) (made x : ℕ) → Ready task bytes layers → Sound (job_on task bytes) task.capacity columns plans made → x < made → Placed task plans x
-placed task bytes layers columns plans made x ready sound l =
+pub placed : (task : Task) (layers columns plans : List ℕ) (made x : ℕ) → Ready task layers → Sound (job_on task) task.capacity columns plans made → x < made → Placed task plans x
+placed task layers columns plans made x ready sound l =
     record {
       slips_most = ready.slips_most;
       horizon_most = ready.horizon_most;
@@ -42,22 +42,22 @@ placed task bytes layers columns plans made x ready sound l =
       long = sound.plans_long;
     }
 
-module _ (task : Task) (plans : List ℕ) (x : ℕ) (p : Placed task plans x) (size : ℕ) (is : size ≡ task.team.count * (task.horizon + 1)) where
+module _ (task : Task) (plans : List ℕ) (x : ℕ) (p : Placed task plans x) (size : ℕ) (is : size ≡ task.job.team.count * (task.job.horizon + 1)) where
   -- the stretch of node x stands in the plans
   pub stretch_inside : x * size + size ≤ length plans
-  stretch_inside = rw is (omega (arith, part_within x task.capacity (task.team.count * (task.horizon + 1)) p.inside, p.long))
+  stretch_inside = rw is (omega (arith, part_within x task.capacity (task.job.team.count * (task.job.horizon + 1)) p.inside, p.long))
 
   -- and so does each cell of it
-  pub cell_inside : (i t : ℕ) → i < task.team.count → t ≤ task.horizon → x * size + i * (task.horizon + 1) + t < length plans
-  cell_inside i t l k = omega (arith, stretch_inside, part_within i task.team.count (task.horizon + 1) l)
+  pub cell_inside : (i t : ℕ) → i < task.job.team.count → t ≤ task.job.horizon → x * size + i * (task.job.horizon + 1) + t < length plans
+  cell_inside i t l k = omega (arith, stretch_inside, part_within i task.job.team.count (task.job.horizon + 1) l)
 
 -- the numbers of the bars fit their columns
-module _ (task : Task) (bars : Bars) (i j : ℕ) (one_in : i < task.team.count) (two_in : j < task.team.count) where
-  pub stays_fit : (v t : ℕ) → bars ≡ stay_bars (λ c. get_or task.team.slips c 0) i j v t → v < 256 → t ≤ 63 → ((c : ℕ) → c < task.team.count → get_or task.team.slips c 0 ≤ 4) → BarsFit task bars
+module _ (task : Task) (bars : Bars) (i j : ℕ) (one_in : i < task.job.team.count) (two_in : j < task.job.team.count) where
+  pub stays_fit : (v t : ℕ) → bars ≡ stay_bars (λ c. get_or task.job.team.slips c 0) i j v t → v < 256 → t ≤ 63 → ((c : ℕ) → c < task.job.team.count → get_or task.job.team.slips c 0 ≤ 4) → BarsFit task bars
   unfolding BarFits is_bar
   stays_fit v t e cell step slips =
-      let one : get_or task.team.slips i 0 ≤ 4 = slips i one_in in
-      let two : get_or task.team.slips j 0 ≤ 4 = slips j two_in in
+      let one : get_or task.job.team.slips i 0 ≤ 4 = slips i one_in in
+      let two : get_or task.job.team.slips j 0 ≤ 4 = slips j two_in in
       rw e (record { i_inside = one_in; j_inside = two_in; one_fits = ((omega arith, omega arith, omega arith), refl); two_fits = ((omega arith, omega arith, omega arith), refl) })
 
   pub crosses_fit : (u v t : ℕ) → bars ≡ cross_bars i j u v t → u < 256 → v < 256 → t ≤ 63 → BarsFit task bars
@@ -88,24 +88,24 @@ module _ (job : Job) where
   clash_in stretch = chosen_same (travel_in stretch) (cells_of (routes_in job stretch)) job.count (cell_in stretch)
 
 -- what the code reads, of a node whose stretch has `size` bytes
-module _ (task : Task) (plans : List ℕ) (x size : ℕ) (is : size ≡ task.team.count * (task.horizon + 1)) where
-  stretch_part : take (x * size + size - x * size) (drop (x * size) plans) ≡ stretch_at (job_in task) plans x
+module _ (task : Task) (plans : List ℕ) (x size : ℕ) (is : size ≡ task.job.team.count * (task.job.horizon + 1)) where
+  stretch_part : take (x * size + size - x * size) (drop (x * size) plans) ≡ stretch_at (job_on task) plans x
   unfolding stretch_at
   stretch_part = let e : x * size + size - x * size ≡ size = omega arith in rw (e, is) refl
 
-  pub cell_read : (i t : ℕ) → i < task.team.count → t ≤ task.horizon → get_or plans (x * size + i * (task.horizon + 1) + t) 0 ≡ cells_of (routes_in (job_in task) (stretch_at (job_in task) plans x)) i t
-  cell_read i t l k = rw is (cell_at (job_in task) plans x i t l k)
+  pub cell_read : (i t : ℕ) → i < task.job.team.count → t ≤ task.job.horizon → get_or plans (x * size + i * (task.job.horizon + 1) + t) 0 ≡ cells_of (routes_in (job_on task) (stretch_at (job_on task) plans x)) i t
+  cell_read i t l k = rw is (cell_at (job_on task) plans x i t l k)
 
-  pub clash_read : first_clash (take (x * size + size - x * size) (drop (x * size) plans)) task.team task.horizon ≡ first_clash (stretch_at (job_in task) plans x) task.team task.horizon
-  clash_read = ap (λ (l : List ℕ). first_clash l task.team task.horizon) stretch_part
+  pub clash_read : first_clash (take (x * size + size - x * size) (drop (x * size) plans)) task.job.team task.job.horizon ≡ first_clash (stretch_at (job_on task) plans x) task.job.team task.job.horizon
+  clash_read = ap (λ (l : List ℕ). first_clash l task.job.team task.job.horizon) stretch_part
 
-module _ (task : Task) (bytes : List ℕ) (capacity : ℕ) (columns plans : List ℕ) (x : ℕ) where
+module _ (task : Task) (capacity : ℕ) (columns plans : List ℕ) (x : ℕ) where
   -- the clash and the cells that the code has read are the node's
-  pub node_clash : (clash : Clash) → clash ≡ first_clash (stretch_at (job_in task) plans x) task.team task.horizon → clash ≡ clash_of (job_on task bytes) (node_at (job_on task bytes) capacity columns plans x)
+  pub node_clash : (clash : Clash) → clash ≡ first_clash (stretch_at (job_on task) plans x) task.job.team task.job.horizon → clash ≡ clash_of (job_on task) (node_at (job_on task) capacity columns plans x)
   unfolding clash_of node_at stretch_at
-  node_clash clash e = e ∙ clash_in (job_on task bytes) (stretch_at (job_on task bytes) plans x)
+  node_clash clash e = e ∙ clash_in (job_on task) (stretch_at (job_on task) plans x)
 
-  pub node_cell : (i t v : ℕ) → v ≡ cells_of (routes_in (job_in task) (stretch_at (job_in task) plans x)) i t → v ≡ cells_of (node_at (job_on task bytes) capacity columns plans x).routes i t
+  pub node_cell : (i t v : ℕ) → v ≡ cells_of (routes_in (job_on task) (stretch_at (job_on task) plans x)) i t → v ≡ cells_of (node_at (job_on task) capacity columns plans x).routes i t
   unfolding node_at routes_in stretch_at
   node_cell i t v e = e
 

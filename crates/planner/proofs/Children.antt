@@ -19,9 +19,9 @@ use Rattle.children.specs.Written.{ChildWritten}
 use Rattle.planner.specs.Steps.{GrownBy, OneFact, TwoFact}
 
 -- a child without a route leaves columns and plans as they were
-pub nothing_changed : (task : Task) (bytes : List ℕ) (x : ℕ) (b : Barred) (made : ℕ) (columns plans columns' plans' : List ℕ) (g : Grown) → g ≡ Nothing → ChildWritten task bytes x b made columns plans columns' plans' g → (columns' ≡ columns) × (plans' ≡ plans)
+pub nothing_changed : (task : Task) (x : ℕ) (b : Barred) (made : ℕ) (columns plans columns' plans' : List ℕ) (g : Grown) → g ≡ Nothing → ChildWritten task x b made columns plans columns' plans' g → (columns' ≡ columns) × (plans' ≡ plans)
 unfolding ChildWritten
-nothing_changed task bytes x b made columns plans columns' plans' g e h = let f = rw e at h in f
+nothing_changed task x b made columns plans columns' plans' g e h = let f = rw e at h in f
 
 module _ (job : Job) (capacity : ℕ) where
   -- `one` is there already: what comes after it comes after all

@@ -6,7 +6,8 @@ use native.Mathlib.Decide.{dec_le}
 use mathlib.Core.Path.{◌≡◌, refl, sym, subst}
 use mathlib.Core.Option.{Option, none, some}
 use Rattle.job.specs.Job.{Job}
-use Rattle.job.specs.Due.{RightJob, RightCapacity}
+use Rattle.job.specs.Due.{RightJob, RightCapacity, Due}
+use Rattle.job.specs.Verdict.{Verdict, verdict_told}
 use Rattle.job.proofs.Due.{accepted_exactly, planner_due}
 use Rattle.search.specs.Search.{Outcome, done, full}
 use Rattle.tree.specs.Tree.{Node, tree}
@@ -16,7 +17,7 @@ use Rattle.tables.specs.Tables.{Tables, first_short, worked_on, with_plan}
 use Rattle.tables.proofs.LongTables.{LengthsFact, lengths_fact}
 use Rattle.planner.specs.Answer.{Result, searched, if_long, enough, planned}
 use Rattle.planner.specs.Promises.{Needed, Promised}
-use Rattle.planner.proofs.Checked.{planned_either}
+use Rattle.planner.proofs.Checked.{refused_alone, planned_either}
 
 abbrev Kept : Job → ℕ → Tables → Result → Type 0
 Kept job capacity ts r = Promised job capacity ts r.answer r.tables
@@ -68,4 +69,4 @@ unfolding Promised
 planned_promised job capacity ts =
     planned_either job capacity ts (Kept job capacity ts)
     (λ e. let (right, n) = (accepted_exactly job capacity).0 e in enough_kept job capacity ts n.least right n)
-    (λ other. (λ r. other ((accepted_exactly job capacity).1 r), planner_due job capacity, refl))
+    (λ r e. (λ right. refused_alone r e ((accepted_exactly job capacity).1 right), subst (λ (v : Verdict). Due job (RightCapacity capacity) (verdict_told v)) e (planner_due job capacity), refl))

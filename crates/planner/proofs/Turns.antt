@@ -18,8 +18,7 @@ use Rattle.tree.specs.Plan.{cells_of}
 use Rattle.tree.specs.Tree.{Node, root, node_sum, clash_of, is_clear, node_clear, bar_one, bar_two, child, kids_for, kids, tree}
 use Rattle.tables.specs.State.{node_at, live, Sound}
 use Rattle.tables.specs.Post.{LeastFact}
-use Rattle.tables.specs.declared.Least.{Least}
-use Rattle.tables.specs.declared.Least.TheVariants.{Nothing, At}
+use Rattle.std.specs.Prelude.{Option, Some, None}
 use Rattle.tables.proofs.Live.{live_none, live_taken, closed_node, sound_closed}
 use Rattle.tables.proofs.Taking.{taken_inside}
 use Rattle.planner.specs.declared.Bars.{Bars}
@@ -27,18 +26,18 @@ use Rattle.planner.specs.declared.Turn.{Turn}
 use Rattle.planner.specs.declared.Turn.TheVariants.{Spent as TurnSpent, Clear as TurnClear, Full as TurnFull, On}
 use Rattle.planner.specs.declared.End.{End}
 use Rattle.planner.specs.declared.End.TheVariants.{Spent, Clear, Full as EndFull}
-use Rattle.children.specs.Steps.{RootFact}
-use Rattle.planner.specs.Steps.{tree_from, GrownBy, TwoFact, one_of, two_of, stay_bars, cross_bars, PartFact, SplitFact, TurnFact, EndFact}
+use Rattle.children.specs.Steps.{RootFact, barred_of}
+use Rattle.planner.specs.Steps.{tree_from, GrownBy, TwoFact, stay_bars, cross_bars, PartFact, SplitFact, TurnFact, EndFact}
 use Rattle.planner.proofs.Cells.{swap_exchanged}
 
 -- ---- the children of a node, by its clash
 
 module _ (job : Job) (n : Node) (clash : Clash) (is : clash ≡ clash_of job n) where
-  meeting_kids : (i j t d v : ℕ) → clash ≡ Meeting i j t d → v ≡ cells_of n.routes i t → kids job n ≡ child job n (one_of (stay_bars job.slip_of i j v t)) ++ child job n (two_of (stay_bars job.slip_of i j v t))
+  meeting_kids : (i j t d v : ℕ) → clash ≡ Meeting i j t d → v ≡ cells_of n.routes i t → kids job n ≡ child job n (barred_of (stay_bars job.slip_of i j v t).one) ++ child job n (barred_of (stay_bars job.slip_of i j v t).two)
   unfolding kids kids_for bar_one bar_two
   meeting_kids i j t d v e h = let c : clash_of job n ≡ Meeting i j t d = sym is ∙ e in rw (c, h) refl
 
-  swap_kids : (i j t u v : ℕ) → clash ≡ Swap i j t → u ≡ cells_of n.routes i t → v ≡ cells_of n.routes j t → kids job n ≡ child job n (one_of (cross_bars i j u v t)) ++ child job n (two_of (cross_bars i j u v t))
+  swap_kids : (i j t u v : ℕ) → clash ≡ Swap i j t → u ≡ cells_of n.routes i t → v ≡ cells_of n.routes j t → kids job n ≡ child job n (barred_of (cross_bars i j u v t).one) ++ child job n (barred_of (cross_bars i j u v t).two)
   unfolding kids kids_for bar_one bar_two
   swap_kids i j t u v e h k =
       let c : clash_of job n ≡ Swap i j t = sym is ∙ e in
@@ -85,14 +84,14 @@ module _ (job : Job) (capacity : ℕ) where
       split_clear e = (refl, clash_clear job node clash is e, refl, refl)
 
       module _ (bars : Bars) (columns' plans' : List ℕ) (r : Turn) where
-        pub split_meeting : (i j t d v : ℕ) → clash ≡ Meeting i j t d → v ≡ cells_of (node_at job capacity columns plans x).routes i t → bars ≡ stay_bars job.slip_of i j v t → PartFact job capacity x (one_of bars) (two_of bars) made columns plans columns' plans' r → SplitFact job capacity x made columns plans columns' plans' r
+        pub split_meeting : (i j t d v : ℕ) → clash ≡ Meeting i j t d → v ≡ cells_of (node_at job capacity columns plans x).routes i t → bars ≡ stay_bars job.slip_of i j v t → PartFact job capacity x (barred_of bars.one) (barred_of bars.two) made columns plans columns' plans' r → SplitFact job capacity x made columns plans columns' plans' r
         split_meeting i j t d v e h b f =
-            two_parted (one_of (stay_bars job.slip_of i j v t)) (two_of (stay_bars job.slip_of i j v t)) columns' plans' r
+            two_parted (barred_of (stay_bars job.slip_of i j v t).one) (barred_of (stay_bars job.slip_of i j v t).two) columns' plans' r
             (meeting_parts job node clash is i j t d e) (meeting_kids job node clash is i j t d v e h) (rw b at f)
 
-        pub split_swap : (i j t u v : ℕ) → clash ≡ Swap i j t → u ≡ cells_of (node_at job capacity columns plans x).routes i t → v ≡ cells_of (node_at job capacity columns plans x).routes j t → bars ≡ cross_bars i j u v t → PartFact job capacity x (one_of bars) (two_of bars) made columns plans columns' plans' r → SplitFact job capacity x made columns plans columns' plans' r
+        pub split_swap : (i j t u v : ℕ) → clash ≡ Swap i j t → u ≡ cells_of (node_at job capacity columns plans x).routes i t → v ≡ cells_of (node_at job capacity columns plans x).routes j t → bars ≡ cross_bars i j u v t → PartFact job capacity x (barred_of bars.one) (barred_of bars.two) made columns plans columns' plans' r → SplitFact job capacity x made columns plans columns' plans' r
         split_swap i j t u v e h k b f =
-            two_parted (one_of (cross_bars i j u v t)) (two_of (cross_bars i j u v t)) columns' plans' r
+            two_parted (barred_of (cross_bars i j u v t).one) (barred_of (cross_bars i j u v t).two) columns' plans' r
             (swap_parts job node clash is i j t e) (swap_kids job node clash is i j t u v e h k) (rw b at f)
 
     -- the node closed in its record
@@ -111,13 +110,13 @@ module _ (job : Job) (capacity : ℕ) where
     abbrev nodes : List Node
     nodes = live job capacity columns plans made
 
-    pub turn_spent : (best : Least) → best ≡ Nothing → LeastFact capacity columns made best → TurnFact job capacity made columns plans columns plans TurnSpent
+    pub turn_spent : (best : Option ℕ) → best ≡ None → LeastFact capacity columns made best → TurnFact job capacity made columns plans columns plans TurnSpent
     unfolding TurnFact tree_from take_least
     turn_spent best e found =
-        let least : LeastFact capacity columns made Nothing = rw e at found in
+        let least : LeastFact capacity columns made None = rw e at found in
         from_spent (node_sum job) (node_clear job) (kids job) capacity nodes made sound.made (rw (live_none job capacity columns plans made least) refl)
 
-    module _ (x : ℕ) (least : LeastFact capacity columns made (At x)) where
+    module _ (x : ℕ) (least : LeastFact capacity columns made (Some x)) where
       abbrev taken : Taken Node
       taken = record { node = node_at job capacity columns plans x; rest = live job capacity (set columns (7 * capacity + x) 0) plans made }
 
@@ -143,7 +142,7 @@ module _ (job : Job) (capacity : ℕ) where
             omega (arith, one_less),
           )
 
-    pub turn_taken : (best : Least) (x : ℕ) → best ≡ At x → LeastFact capacity columns made best → (columns' plans' : List ℕ) (r : Turn) → SplitFact job capacity x made columns plans columns' plans' r → TurnFact job capacity made columns plans columns' plans' r
+    pub turn_taken : (best : Option ℕ) (x : ℕ) → best ≡ Some x → LeastFact capacity columns made best → (columns' plans' : List ℕ) (r : Turn) → SplitFact job capacity x made columns plans columns' plans' r → TurnFact job capacity made columns plans columns' plans' r
     turn_taken best x e found = turn_from x (rw e at found)
 
   -- ---- turn after turn

@@ -18,12 +18,12 @@ use Rattle.tables.proofs.Costs.{routes_joined, total_in}
 use Rattle.children.specs.declared.Task.{Task}
 use Rattle.planner.specs.declared.End.{End}
 use Rattle.planner.specs.declared.End.TheVariants.{Spent, Clear, Full as EndFull}
-use Rattle.planner.specs.declared.Answer.{Answer}
-use Rattle.planner.specs.declared.Answer.TheVariants.{Plan, NoPlan, Full as AnswerFull}
-use Rattle.planner.specs.Answer.{searched}
+use Rattle.std.specs.Prelude.{Ok, Err}
+use Rattle.planner.specs.declared.answer.Denial.TheVariants.{NoPlan, Full as DenialFull}
+use Rattle.planner.specs.Answer.{Answer, searched}
 use Rattle.children.specs.Written.{sum_in}
 use Rattle.children.specs.Steps.{job_on, Ready, Kept}
-use Rattle.planner.specs.Steps.{job_in, Placed, EndFact, EndPlaced, ToldFact, Cleared, RanFact}
+use Rattle.planner.specs.Steps.{Placed, EndFact, EndPlaced, ToldFact, Cleared, RanFact}
 use Rattle.planner.proofs.Cells.{stretch_inside}
 
 -- ---- what is told
@@ -33,61 +33,61 @@ module _ (task : Task) (plans : List ℕ) where
   unfolding EndPlaced
   end_placed end x made e p = let q : EndPlaced task plans (Clear x made) = rw e at p in q
 
-  pub told_spent : (output : List ℕ) (end : End) (made : ℕ) → end ≡ Spent made → ToldFact task plans output output end (NoPlan made)
+  pub told_spent : (output : List ℕ) (end : End) (made : ℕ) → end ≡ Spent made → ToldFact task plans output output end (Err (NoPlan made))
   unfolding ToldFact
   told_spent output end made e = rw e (refl, refl)
 
-  pub told_full : (output : List ℕ) (end : End) → end ≡ EndFull → ToldFact task plans output output end (AnswerFull task.capacity)
+  pub told_full : (output : List ℕ) (end : End) → end ≡ EndFull → ToldFact task plans output output end (Err (DenialFull task.capacity))
   unfolding ToldFact
   told_full output end e = rw e (refl, refl)
 
-  stretch_long : (x : ℕ) → Placed task plans x → length (stretch_at (job_in task) plans x) ≡ plan_length (job_in task)
+  stretch_long : (x : ℕ) → Placed task plans x → length (stretch_at (job_on task) plans x) ≡ plan_length (job_on task)
   unfolding stretch_at
   stretch_long x p =
-      let inside : x * plan_length (job_in task) + plan_length (job_in task) ≤ length plans = stretch_inside task plans x p (plan_length (job_in task)) refl in
+      let inside : x * plan_length (job_on task) + plan_length (job_on task) ≤ length plans = stretch_inside task plans x p (plan_length (job_on task)) refl in
       simp (length-take, length-drop) (omega arith)
 
-  sum_is_total : (x : ℕ) → sum_in task plans x ≡ total (job_in task) (routes_in (job_in task) (stretch_at (job_in task) plans x))
+  sum_is_total : (x : ℕ) → sum_in task plans x ≡ total (job_on task) (routes_in (job_on task) (stretch_at (job_on task) plans x))
   unfolding sum_in stretch_at
-  sum_is_total x = sym (total_in (job_in task) (stretch_at (job_in task) plans x))
+  sum_is_total x = sym (total_in (job_on task) (stretch_at (job_on task) plans x))
 
-  pub told_clear : (output output' : List ℕ) (end : End) (x made size sum : ℕ) → end ≡ Clear x made → Placed task plans x → size ≡ task.team.count * (task.horizon + 1) → sum ≡ sum_in task plans x → output' ≡ take size (drop (x * size) plans) ++ drop size output → ToldFact task plans output output' end (Plan sum made)
+  pub told_clear : (output output' : List ℕ) (end : End) (x made size sum : ℕ) → end ≡ Clear x made → Placed task plans x → size ≡ task.job.team.count * (task.job.horizon + 1) → sum ≡ sum_in task plans x → output' ≡ take size (drop (x * size) plans) ++ drop size output → ToldFact task plans output output' end (Ok (record { sum = sum; records = made }))
   unfolding ToldFact plan_written stretch_at
   told_clear output output' end x made size sum e p s h w =
-      let joined : each (λ (r : List ℕ). r) (routes_in (job_in task) (stretch_at (job_in task) plans x)) ≡ stretch_at (job_in task) plans x = routes_joined (job_in task) (stretch_at (job_in task) plans x) (stretch_long x p) in
-      let out : output' ≡ stretch_at (job_in task) plans x ++ drop (plan_length (job_in task)) output = rw s at w in
-      rw e (ap (λ (n : ℕ). Plan n made) (h ∙ sum_is_total x), out ∙ ap (λ (l : List ℕ). l ++ drop (plan_length (job_in task)) output) (sym joined))
+      let joined : each (λ (r : List ℕ). r) (routes_in (job_on task) (stretch_at (job_on task) plans x)) ≡ stretch_at (job_on task) plans x = routes_joined (job_on task) (stretch_at (job_on task) plans x) (stretch_long x p) in
+      let out : output' ≡ stretch_at (job_on task) plans x ++ drop (plan_length (job_on task)) output = rw s at w in
+      rw e (ap (λ (n : ℕ). Ok (record { sum = n; records = made })) (h ∙ sum_is_total x), out ∙ ap (λ (l : List ℕ). l ++ drop (plan_length (job_on task)) output) (sym joined))
 
 -- ---- the whole
 
-module _ (task : Task) (bytes : List ℕ) where
+module _ (task : Task) where
   -- the plans table has the stretch of the node that a search ended with
-  pub ended_placed : (o : Outcome Node) (layers columns plans : List ℕ) (end : End) → Ready task bytes layers → plans_length (job_in task) task.capacity ≤ length plans → EndFact (job_on task bytes) task.capacity o columns plans end → EndPlaced task plans end
+  pub ended_placed : (o : Outcome Node) (layers columns plans : List ℕ) (end : End) → Ready task layers → plans_length (job_on task) task.capacity ≤ length plans → EndFact (job_on task) task.capacity o columns plans end → EndPlaced task plans end
   unfolding EndFact EndPlaced
   ended_placed o layers columns plans (Spent made) ready room f = tt
   ended_placed o layers columns plans (Clear x made) ready room f =
       record { slips_most = ready.slips_most; horizon_most = ready.horizon_most; count_most = ready.count_most; capacity_most = ready.capacity_most; inside = f.0; long = room }
   ended_placed o layers columns plans EndFull ready room f = tt
 
-  module _ (c p l c' p' l' c'' p'' l'' : List ℕ) (kept : Kept task bytes c p l c' p' l') (cleared : Cleared task c' p' l' c'' p'' l'') (output : List ℕ) where
+  module _ (c p l c' p' l' c'' p'' l'' : List ℕ) (kept : Kept task c p l c' p' l') (cleared : Cleared task c' p' l' c'' p'' l'') (output : List ℕ) where
     abbrev before : Tables
     before = record { columns = c; plans = p; layers = l; output = output }
 
     abbrev after : List ℕ → Tables
     after output' = record { columns = c''; plans = p''; layers = l''; output = output' }
 
-    left_worked : (output' : List ℕ) → after output' ≡ record { columns = zeroed (columns_length task.capacity) c; plans = zeroed (plans_length (job_on task bytes) task.capacity) p; layers = zeroed (layers_length (job_on task bytes)) l; output = output' }
+    left_worked : (output' : List ℕ) → after output' ≡ record { columns = zeroed (columns_length task.capacity) c; plans = zeroed (plans_length (job_on task) task.capacity) p; layers = zeroed (layers_length (job_on task)) l; output = output' }
     left_worked output' =
         let ec : c'' ≡ zeroed (columns_length task.capacity) c = cleared.columns_cleared ∙ zeroed_same _ c c' kept.columns_kept in
-        let ep : p'' ≡ zeroed (plans_length (job_on task bytes) task.capacity) p = cleared.plans_cleared ∙ zeroed_same _ p p' kept.plans_kept in
-        let el : l'' ≡ zeroed (layers_length (job_on task bytes)) l = cleared.layers_cleared ∙ zeroed_same _ l l' kept.layers_kept in
+        let ep : p'' ≡ zeroed (plans_length (job_on task) task.capacity) p = cleared.plans_cleared ∙ zeroed_same _ p p' kept.plans_kept in
+        let el : l'' ≡ zeroed (layers_length (job_on task)) l = cleared.layers_cleared ∙ zeroed_same _ l l' kept.layers_kept in
         rw (ec, ep, el) refl
 
-    ran_of : (o : Outcome Node) (output' : List ℕ) (end : End) (answer : Answer) → EndFact (job_on task bytes) task.capacity o c' p' end → ToldFact task p' output output' end answer → (answer ≡ (searched (job_on task bytes) task.capacity before o).answer) × (after output' ≡ (searched (job_on task bytes) task.capacity before o).tables)
+    ran_of : (o : Outcome Node) (output' : List ℕ) (end : End) (answer : Answer) → EndFact (job_on task) task.capacity o c' p' end → ToldFact task p' output output' end answer → (answer ≡ (searched (job_on task) task.capacity before o).answer) × (after output' ≡ (searched (job_on task) task.capacity before o).tables)
     unfolding EndFact ToldFact searched worked_on with_plan node_sum node_at routes_in stretch_at total plan_written
     ran_of o output' (Spent made) answer f t = rw (f, t.1) (t.0, left_worked output)
     ran_of o output' (Clear x made) answer f t = rw (f.1, t.1) (t.0, left_worked _)
     ran_of o output' EndFull answer f t = rw (f, t.1) (t.0, left_worked output)
 
-    pub ran : (output' : List ℕ) (end : End) (answer : Answer) → EndFact (job_on task bytes) task.capacity (tree (job_on task bytes) task.capacity) c' p' end → ToldFact task p' output output' end answer → RanFact (job_on task bytes) task.capacity (record { columns = c; plans = p; layers = l; output = output }) answer (record { columns = c''; plans = p''; layers = l''; output = output' })
-    ran output' end answer f t = let (a, b) = ran_of (tree (job_on task bytes) task.capacity) output' end answer f t in record { told = a; left = b }
+    pub ran : (output' : List ℕ) (end : End) (answer : Answer) → EndFact (job_on task) task.capacity (tree (job_on task) task.capacity) c' p' end → ToldFact task p' output output' end answer → RanFact (job_on task) task.capacity (record { columns = c; plans = p; layers = l; output = output }) answer (record { columns = c''; plans = p''; layers = l''; output = output' })
+    ran output' end answer f t = let (a, b) = ran_of (tree (job_on task) task.capacity) output' end answer f t in record { told = a; left = b }

@@ -13,7 +13,8 @@ use Rattle.job.specs.Job.{Job, wrong_limits, wrong_capacity, wrong_count, wrong_
 use Rattle.job.specs.Due.{RightCapacity}
 use Rattle.job.specs.Told.{named}
 use Rattle.job.specs.Verdict.{carrier_verdict, shared_verdict, judge_with, if_accepted}
-use Rattle.job.specs.declared.Verdict.TheVariants.{SharedGoal}
+use Rattle.std.specs.Prelude.{Err}
+use Rattle.job.specs.declared.Refusal.TheVariants.{SharedGoal}
 use Rattle.job.proofs.Due.{due_sixteen}
 use Rattle.routes.specs.Route.{step_cost, cost}
 use Rattle.routes.specs.Bars.{bars_for, may_stand, may_turn}
@@ -25,7 +26,7 @@ use Rattle.tables.specs.Tables.{Tables, first_short, worked_on, plan_written, wi
 use Rattle.tree.specs.Tree.{route_under, with_route, free_routes, root_of, root, node_sum, clash_of, is_clear, node_clear, tree}
 use Rattle.planner.specs.Answer.{Result, answer_told, searched, if_long, enough, planned}
 use Rattle.planner.specs.Promises.{Promised}
-use Rattle.planner.specs.declared.Answer.TheVariants.{Refused, Short}
+use Rattle.planner.specs.declared.answer.Denial.TheVariants.{Job as OfJob, Short}
 use Rattle.planner.specs.Stars.{Star, star_job, star_tables, Seen, asked, given, stars, last_job}
 use Rattle.planner.proofs.Stars.{stars_hold}
 
@@ -138,10 +139,10 @@ seven_given_before_16 r e wrong = let z : ◌≡◌ {A = ℕ} 7 16 = sym wrong �
 -- ---- the plain promise refuses by itself, without the equation: 16 where two carriers share a start, 7 where two share a goal
 
 module _ (job : Job) (n : ℕ) (before after : Tables) (i j : ℕ) (less : i < j) (inside : j < job.count) where
-  pub promise_refuses_16_before_6 : (a b : ℕ) → job.start_of i ≡ job.start_of j → Promised job n before (Refused (SharedGoal a b)) after → ⊥
+  pub promise_refuses_16_before_6 : (a b : ℕ) → job.start_of i ≡ job.start_of j → Promised job n before (Err (OfJob (SharedGoal a b))) after → ⊥
   unfolding Promised
   promise_refuses_16_before_6 a b shared p = (due_sixteen job (RightCapacity n) (named 16 a b) p.1 refl).0 i j less inside shared
 
-  pub promise_refuses_7_before_16 : (t l : ℕ) → job.goal_of i ≡ job.goal_of j → Promised job n before (Short t l) after → ⊥
+  pub promise_refuses_7_before_16 : (t l : ℕ) → job.goal_of i ≡ job.goal_of j → Promised job n before (Err (Short t l)) after → ⊥
   unfolding Promised
   promise_refuses_7_before_16 t l shared p = p.0.goals i j less inside shared

@@ -3,9 +3,8 @@
 use Rattle.std.specs.Prelude.{ℕ, ◌≡◌}
 use Rattle.job.specs.Job.{Job}
 use Rattle.tables.specs.Tables.{Tables}
-use Rattle.planner.specs.Answer.{planned}
+use Rattle.planner.specs.Answer.{Answer, planned}
 use Rattle.planner.specs.Promises.{Promised}
-use Rattle.planner.specs.declared.Answer.{Answer}
 
 pub record Planned (job : Job) (capacity : ℕ) (before : Tables) (answer : Answer) (after : Tables) : Type 0 where
   pub told : answer ≡ (planned job capacity before).answer

@@ -1,6 +1,6 @@
 -- What each step of the planner's code has done, said about the tables before and after it. No reader has to believe these: the
 -- contract of `plan` speaks of document 01's definitions alone.
-use Rattle.std.specs.Prelude.{ℕ, ◌+◌, ◌-◌, ◌*◌, ◌≤◌, ◌<◌, ◌≡◌, true, false, List, [], ◌++◌, length, get_or, set}
+use Rattle.std.specs.Prelude.{ℕ, ◌+◌, ◌-◌, ◌*◌, ◌≤◌, ◌<◌, ◌≡◌, true, false, Ok, Err, Result, List, ◌++◌, length, get_or, set}
 use Rattle.std.proofs.Math.Option.{Option, none, some}
 use Rattle.lent.specs.Lent.{zeroed}
 use Rattle.job.specs.Job.{Job, plan_length}
@@ -14,37 +14,31 @@ use Rattle.tables.specs.State.{routes_in, stretch_at, node_at, live, Sound}
 use Rattle.tables.specs.Tables.{Tables, columns_length, plans_length, layers_length, plan_written}
 use Rattle.children.specs.declared.Task.{Task}
 use Rattle.children.specs.Steps.{BarSet, job_on}
-use Rattle.planner.specs.Answer.{searched}
-use Rattle.planner.specs.declared.Answer.{Answer}
-use Rattle.planner.specs.declared.Answer.TheVariants.{Plan, NoPlan, Full as AnswerFull}
+use Rattle.planner.specs.Answer.{Answer, searched}
+use Rattle.planner.specs.declared.answer.Denial.{Denial}
+use Rattle.planner.specs.declared.answer.Denial.TheVariants.{Short, NoPlan, Full as DenialFull}
 use Rattle.planner.specs.declared.Bars.{Bars}
 use Rattle.planner.specs.declared.Turn.{Turn}
 use Rattle.planner.specs.declared.Turn.TheVariants.{Spent as TurnSpent, Clear as TurnClear, Full as TurnFull, On}
 use Rattle.planner.specs.declared.End.{End}
 use Rattle.planner.specs.declared.End.TheVariants.{Spent, Clear, Full as EndFull}
-use Rattle.planner.specs.declared.Lengths.{Lengths}
-use Rattle.planner.specs.declared.Lengths.TheVariants.{Enough, Lacking}
 
 -- all numbers are small
 pub record Limits (task : Task) : Type 0 where
-  pub width_most : task.width ≤ 16
-  pub height_most : task.height ≤ 16
-  pub horizon_most : task.horizon ≤ 63
-  pub count_most : task.team.count ≤ 8
+  pub width_most : task.job.width ≤ 16
+  pub height_most : task.job.height ≤ 16
+  pub horizon_most : task.job.horizon ≤ 63
+  pub count_most : task.job.team.count ≤ 8
   pub capacity_most : task.capacity ≤ 1024
 
 -- node x has its stretch in the plans table, and all numbers are small
 pub record Placed (task : Task) (plans : List ℕ) (x : ℕ) : Type 0 where
-  pub slips_most : (i : ℕ) → i < task.team.count → get_or task.team.slips i 0 ≤ 4
-  pub horizon_most : task.horizon ≤ 63
-  pub count_most : task.team.count ≤ 8
+  pub slips_most : (i : ℕ) → i < task.job.team.count → get_or task.job.team.slips i 0 ≤ 4
+  pub horizon_most : task.job.horizon ≤ 63
+  pub count_most : task.job.team.count ≤ 8
   pub capacity_most : task.capacity ≤ 1024
   pub inside : x < task.capacity
-  pub long : task.capacity * (task.team.count * (task.horizon + 1)) ≤ length plans
-
--- a task's job without its hall: all that the stretches of the plans table want to know
-abbrev pub job_in : Task → Job
-job_in task = job_on task []
+  pub long : task.capacity * (task.job.team.count * (task.job.horizon + 1)) ≤ length plans
 
 -- what is left of the search from the nodes in the tables
 unfoldable pub tree_from : Job → ℕ → List ℕ → List ℕ → ℕ → Outcome Node
@@ -70,23 +64,17 @@ TwoFact job capacity x one two made columns plans columns' plans' r =
     (child job (node_at job capacity columns plans x) one ++ child job (node_at job capacity columns plans x) two) columns' plans' r
 
 -- the two bars of a split, with the carriers that they bind
-abbrev pub one_of : Bars → Barred
-one_of bars = record { carrier = bars.i; bar = bars.one }
-
-abbrev pub two_of : Bars → Barred
-two_of bars = record { carrier = bars.j; bar = bars.two }
-
 abbrev pub stay_bars : (ℕ → ℕ) → ℕ → ℕ → ℕ → ℕ → Bars
-stay_bars slip i j v e = record { i = i; one = Stay v e (e + slip j); j = j; two = Stay v e (e + slip i) }
+stay_bars slip i j v e = record { one = record { carrier = i; bar = Stay v e (e + slip j) }; two = record { carrier = j; bar = Stay v e (e + slip i) } }
 
 abbrev pub cross_bars : ℕ → ℕ → ℕ → ℕ → ℕ → Bars
-cross_bars i j u v t = record { i = i; one = Cross u v t; j = j; two = Cross v u t }
+cross_bars i j u v t = record { one = record { carrier = i; bar = Cross u v t }; two = record { carrier = j; bar = Cross v u t } }
 
 pub record BarsFit (task : Task) (bars : Bars) : Type 0 where
-  pub i_inside : bars.i < task.team.count
-  pub j_inside : bars.j < task.team.count
-  pub one_fits : BarSet bars.one
-  pub two_fits : BarSet bars.two
+  pub i_inside : bars.one.carrier < task.job.team.count
+  pub j_inside : bars.two.carrier < task.job.team.count
+  pub one_fits : BarSet bars.one.bar
+  pub two_fits : BarSet bars.two.bar
 
 -- node x closed, and two children of it
 unfoldable pub PartFact : Job → ℕ → ℕ → Barred → Barred → ℕ → List ℕ → List ℕ → List ℕ → List ℕ → Turn → Type 0
@@ -131,29 +119,29 @@ EndPlaced task plans EndFull = Unit {0}
 
 -- what is told of an end, and the output
 unfoldable pub ToldFact : Task → List ℕ → List ℕ → List ℕ → End → Answer → Type 0
-ToldFact task plans output output' (Spent made) r = (r ≡ NoPlan made) × (output' ≡ output)
+ToldFact task plans output output' (Spent made) r = (r ≡ Err (NoPlan made)) × (output' ≡ output)
 ToldFact task plans output output' (Clear x made) r =
-    (r ≡ Plan (total (job_in task) (routes_in (job_in task) (stretch_at (job_in task) plans x))) made)
-    × (output' ≡ plan_written (job_in task) (routes_in (job_in task) (stretch_at (job_in task) plans x)) output)
-ToldFact task plans output output' EndFull r = (r ≡ AnswerFull task.capacity) × (output' ≡ output)
+    (r ≡ Ok (record { sum = total (job_on task) (routes_in (job_on task) (stretch_at (job_on task) plans x)); records = made }))
+    × (output' ≡ plan_written (job_on task) (routes_in (job_on task) (stretch_at (job_on task) plans x)) output)
+ToldFact task plans output output' EndFull r = (r ≡ Err (DenialFull task.capacity)) × (output' ≡ output)
 
 -- the first three tables, cleared
 pub record Cleared (task : Task) (columns plans layers columns' plans' layers' : List ℕ) : Type 0 where
   pub columns_cleared : columns' ≡ zeroed (columns_length task.capacity) columns
-  pub plans_cleared : plans' ≡ zeroed (plans_length (job_in task) task.capacity) plans
-  pub layers_cleared : layers' ≡ zeroed (layers_length (job_in task)) layers
+  pub plans_cleared : plans' ≡ zeroed (plans_length (job_on task) task.capacity) plans
+  pub layers_cleared : layers' ≡ zeroed (layers_length (job_on task)) layers
 
 -- the first short table that the definitions find, as the code tells it
-unfoldable pub lengths_of : (ℕ → ℕ) → Option ℕ → Lengths
-lengths_of needed none = Enough
-lengths_of needed (some t) = Lacking t (needed t)
+unfoldable pub lengths_of : (ℕ → ℕ) → Option ℕ → Result (Unit {0}) Denial
+lengths_of needed none = Ok tt
+lengths_of needed (some t) = Err (Short t (needed t))
 
 -- all tables are long enough
 pub record Roomy (task : Task) (columns plans layers output : List ℕ) : Type 0 where
   pub columns_room : columns_length task.capacity ≤ length columns
-  pub plans_room : plans_length (job_in task) task.capacity ≤ length plans
-  pub layers_room : layers_length (job_in task) ≤ length layers
-  pub output_room : plan_length (job_in task) ≤ length output
+  pub plans_room : plans_length (job_on task) task.capacity ≤ length plans
+  pub layers_room : layers_length (job_on task) ≤ length layers
+  pub output_room : plan_length (job_on task) ≤ length output
 
 -- the search and what is left of it, by the definitions
 pub record RanFact (job : Job) (capacity : ℕ) (before : Tables) (answer : Answer) (after : Tables) : Type 0 where

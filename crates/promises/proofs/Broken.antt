@@ -21,7 +21,7 @@ use Rattle.job.specs.Told.{counted, bare, too_short}
 use Rattle.job.specs.Verdict.{carrier_verdict, shared_verdict, judge_with, judge, if_accepted}
 use Rattle.job.specs.declared.Fault.{Fault}
 use Rattle.job.specs.declared.Told.{Told}
-use Rattle.job.specs.declared.Verdict.TheVariants.{Accepted}
+use Rattle.std.specs.Prelude.{Ok}
 use Rattle.routes.specs.Route.{step_cost, cost}
 use Rattle.routes.specs.Bars.{bars_for, bars_cell, bars_way, may_stand, may_turn}
 use Rattle.routes.specs.Best.{preferred, outdone, moves, moved, better, best_of, in_front, best_way, best_route}
@@ -70,7 +70,7 @@ nothing = record { told = bare 0; output = [] }
 abbrev RunsAt : Star → Type 0
 RunsAt s = Runs (star_job s) s.capacity (star_tables s)
 
-runs_by : (s : Star) → judge_with (wrong_capacity s.capacity) (star_job s) ≡ Accepted → first_short (star_job s) s.capacity (star_tables s) ≡ none → RunsAt s
+runs_by : (s : Star) → judge_with (wrong_capacity s.capacity) (star_job s) ≡ Ok tt → first_short (star_job s) s.capacity (star_tables s) ≡ none → RunsAt s
 runs_by s accepted long =
     let (right, capacity) = (accepted_exactly (star_job s) s.capacity).0 accepted in
     record { right = right; capacity = capacity; long = (long_exact (star_job s) s.capacity (star_tables s)).0 long }

@@ -15,15 +15,15 @@ use Rattle.lists.proofs.Orders.{Ordered, ordered_rows, LeastFact, first_least}
 use Rattle.lists.proofs.Passing.{FirstFact}
 use Rattle.job.specs.Job.{Job, plan_length, plan_cell}
 use Rattle.job.specs.Told.{bare, refusal}
-use Rattle.job.specs.Verdict.{judge, if_accepted, IsAccepted}
+use Rattle.job.specs.Verdict.{Verdict, verdict_told, judge, if_accepted, IsAccepted}
 use Rattle.job.specs.declared.Fault.{Fault}
-use Rattle.job.specs.declared.Verdict.TheVariants.{Accepted}
+use Rattle.std.specs.Prelude.{Ok, Err, Some}
+use Rattle.job.specs.declared.CheckRefusal.TheVariants.{Job as OfJob, Short}
 use Rattle.job.proofs.Due.{checks_accept_exactly as exactly, check_due}
-use Rattle.job.proofs.Refused.{if_refused}
-use Rattle.routes.specs.Check.{Place, places, first_wrong_place, place_verdict, plan_verdict, route_verdict, route_told}
-use Rattle.routes.specs.declared.RouteVerdict.TheVariants.{Refused as RouteRefused, Short as RouteShort, Wrong}
+use Rattle.job.proofs.Refused.{refused_by, if_refused}
+use Rattle.routes.specs.Check.{places, first_wrong_place, place_verdict, plan_verdict, route_verdict, route_told}
+use Rattle.routes.specs.declared.Place.{Place}
 use Rattle.clashes.specs.Check.{plan_travel, plan_clash, compared, meeting_verdict, meeting_told}
-use Rattle.clashes.specs.declared.MeetingVerdict.TheVariants.{Refused as MeetingRefused, Short as MeetingShort}
 use Rattle.clashes.proofs.First.{chosen_right}
 use Rattle.checks.specs.Demand.{LawfulRoutes, Passes}
 use Rattle.checks.specs.First.{NoneWrong, FirstWrongPlace}
@@ -70,18 +70,19 @@ pass_is_safe job plan r m routes meetings z n =
 pub checks_refuse_first : ChecksRefuseFirst OurRoutes OurMeetings
 unfolding ChecksRefuseFirst route_verdict meeting_verdict
 checks_refuse_first job plan r m routes meetings not_right =
-    let wrong : judge job ≡ Accepted → ⊥ = λ e. not_right ((exactly job).0 e) in (
+    let (cause, is) = refused_by (judge job) (λ e. not_right ((exactly job).0 e)) in
+    let told = sym (ap (λ (v : Verdict). refusal (verdict_told v)) is) in (
       check_due job,
-      routes ∙ ap route_told (if_refused (judge job) (plan_verdict job plan) (RouteRefused (judge job)) wrong),
-      meetings ∙ ap meeting_told (if_refused (judge job) (compared job plan) (MeetingRefused (judge job)) wrong),
+      routes ∙ ap route_told (if_refused (judge job) cause (plan_verdict job plan) (λ r. Err (OfJob r)) is) ∙ told,
+      meetings ∙ ap meeting_told (if_refused (judge job) cause (compared job plan) (λ r. Err (OfJob r)) is) ∙ told,
     )
 
 module _ (job : Job) (plan : List ℕ) (accepted : IsAccepted job) (short : length plan < plan_length job) where
-  route_short : route_verdict job plan ≡ RouteShort (plan_length job)
+  route_short : route_verdict job plan ≡ Err (Short (plan_length job))
   unfolding route_verdict plan_verdict if_accepted
   route_short = rw (accepted, plan_verdict, lt-ltb (length plan) (plan_length job) short)
 
-  meeting_short : meeting_verdict job plan ≡ MeetingShort (plan_length job)
+  meeting_short : meeting_verdict job plan ≡ Err (Short (plan_length job))
   unfolding meeting_verdict compared if_accepted
   meeting_short = rw (accepted, compared, lt-ltb (length plan) (plan_length job) short)
 
@@ -112,7 +113,7 @@ places_ordered m h = ordered_rows NotAfter place (λ i. 0) (λ i. h + 1) (λ i t
 
 module _ (job : Job) (plan : List ℕ) (accepted : IsAccepted job) (long : plan_length job ≤ length plan) where
   abbrev Found : Option Place → Type 0
-  Found o = (LawfulRoutes job plan × NoneWrong job (plan_cell job plan) × (route_told (place_verdict o) ≡ refusal (bare 0))) ⊎ ((i t : ℕ) × FirstWrongPlace job (plan_cell job plan) i t × (route_told (place_verdict o) ≡ route_told (Wrong i t)))
+  Found o = (LawfulRoutes job plan × NoneWrong job (plan_cell job plan) × (route_told (place_verdict o) ≡ refusal (bare 0))) ⊎ ((i t : ℕ) × FirstWrongPlace job (plan_cell job plan) i t × (route_told (place_verdict o) ≡ route_told (Ok (Some (record { carrier = i; step = t })))))
 
   found : (o : Option Place) → o ≡ first_wrong_place job (plan_cell job plan) → WrongFact job (plan_cell job plan) o
       → LeastFact (wrong job (plan_cell job plan)) NotAfter (places job.count job.horizon) o → Found o

@@ -8,10 +8,11 @@ use mathlib.Core.Logic.{◌⊎◌, inl, inr}
 use mathlib.Core.Option.{Option, none, some, some-ne-none}
 use Rattle.job.specs.Job.{Job, wrong_capacity}
 use Rattle.job.specs.Due.{RightJob, RightCapacity, Due}
-use Rattle.job.specs.Verdict.{verdict_told, judge_with}
+use Rattle.std.specs.Prelude.{Ok, Err}
+use Rattle.job.specs.Verdict.{refusal_told, verdict_told, judge_with}
 use Rattle.job.specs.declared.Told.{Told}
 use Rattle.job.proofs.Due.{accepted_exactly as exactly, checks_accept_exactly as checks_exactly, planner_due}
-use Rattle.job.proofs.Refused.{refusing_alone}
+use Rattle.job.proofs.Refused.{refused_by, refusing_alone}
 use Rattle.checks.specs.Demand.{Passes}
 use Rattle.search.specs.Search.{Outcome, done, full}
 use Rattle.tree.specs.Plan.{Routes}
@@ -20,10 +21,9 @@ use Rattle.tree.specs.Promises.{NoneExists}
 use Rattle.tree.proofs.Promises.{tree_need}
 use Rattle.tables.specs.Tables.{Tables, needed_length, first_short, FirstShort, LongTables, worked_on, plan_written, with_plan}
 use Rattle.tables.proofs.LongTables.{LengthsFact, lengths_fact, long_exact}
-use Rattle.planner.specs.Answer.{answer_told, Result, searched, if_long, enough, planned}
+use Rattle.planner.specs.Answer.{Answer, answer_told, Result, searched, if_long, enough, planned}
 use Rattle.planner.specs.Promises.{Promised}
-use Rattle.planner.specs.declared.Answer.{Answer}
-use Rattle.planner.specs.declared.Answer.TheVariants.{Plan, Refused, Short, NoPlan, Full}
+use Rattle.planner.specs.declared.answer.Denial.TheVariants.{Job as OfJob, Short, NoPlan, Full}
 use Rattle.planner.proofs.Checked.{planned_accepted, planned_refused}
 use Rattle.planner.proofs.Known.{Known, known, numbered}
 use Rattle.lines.specs.Program.{program_tables, program_text}
@@ -45,12 +45,12 @@ module _ (job : Job) (n : ℕ) (before : Tables) where
   planned_right right capacity = planned_accepted job n before ((exactly job n).1 (right, capacity))
 
   -- a table that is too short is told with the length it needed
-  enough_short : (LongTables job n before → ⊥) → (t : ℕ) × FirstShort job n before t × (enough job n before ≡ record { answer = Short t (needed_length job n t); tables = before })
+  enough_short : (LongTables job n before → ⊥) → (t : ℕ) × FirstShort job n before t × (enough job n before ≡ record { answer = Err (Short t (needed_length job n t)); tables = before })
   unfolding enough if_long LengthsFact
   enough_short short = go (first_short job n before) (lengths_fact job n before)
     where
       go : (o : Option ℕ) → LengthsFact job n before o
-          → (t : ℕ) × FirstShort job n before t × (if_long job n before o (searched job n before (tree job n)) ≡ record { answer = Short t (needed_length job n t); tables = before })
+          → (t : ℕ) × FirstShort job n before t × (if_long job n before o (searched job n before (tree job n)) ≡ record { answer = Err (Short t (needed_length job n t)); tables = before })
       go none long = absurd (short long)
       go (some t) f = (t, f, refl)
 
@@ -93,14 +93,16 @@ always_numbered job n before told after p = rw p.is (numbered job n before p.ans
 pub refuses_first : RefusesFirst OurPlanner
 unfolding RefusesFirst
 refuses_first job n before told after p wrong =
-    let s = seen job n before told after p (record { answer = Refused (judge_with (wrong_capacity n) job); tables = before }) (planned_refused job n before (λ e. wrong ((exactly job n).0 e))) in
-    (subst (Due job (RightCapacity n)) (sym s.tells) (planner_due job n), s.tells, s.leaves)
+    let (refusal, is) = refused_by (judge_with (wrong_capacity n) job) (λ e. wrong ((exactly job n).0 e)) in
+    let s = seen job n before told after p (record { answer = Err (OfJob refusal); tables = before }) (planned_refused job n before refusal is) in
+    let tells : told ≡ verdict_told (judge_with (wrong_capacity n) job) = s.tells ∙ sym (ap verdict_told is) in
+    (subst (Due job (RightCapacity n)) (sym tells) (planner_due job n), tells, s.leaves)
 
 pub short_is_seven : ShortIsSeven OurPlanner
 unfolding ShortIsSeven
 short_is_seven job n before told after p right capacity short =
     let (t, first, e) = enough_short job n before short in
-    let s = seen job n before told after p (record { answer = Short t (needed_length job n t); tables = before }) (planned_right job n before right capacity ∙ e) in
+    let s = seen job n before told after p (record { answer = Err (Short t (needed_length job n t)); tables = before }) (planned_right job n before right capacity ∙ e) in
     (t, first, s.tells, s.leaves)
 
 left_by : (job : Job) (n : ℕ) (before : Tables) (o : Outcome Node) → Left job n before (answer_told (searched job n before o).answer) (searched job n before o).tables
@@ -131,15 +133,15 @@ module _ (job : Job) (n : ℕ) (before : Tables) (told : Told) (after : Tables) 
 
   planned_zero : (r : Answer) → Known job n before r → Promised job n before r after → (answer_told r).number ≡ 0 → (rs : Routes) × PlanGiven job before (answer_told r) after rs × SafeGiven job before (answer_told r) after rs
   unfolding Known Promised
-  planned_zero (Plan s k) f (rs, least, written, few, need) e = (
+  planned_zero (Ok p) f (rs, least, written, few, need) e = (
     rs,
     record { written = written; plan = least.plan; sum = least.told; least = least.least },
     record { written = written; safe = least.safe; sum = least.told; least = least.least_safe },
   )
-  planned_zero (Refused v) f q e = absurd (refusing_alone (verdict_told v).number 0 f.1 (inl refl) e)
-  planned_zero (Short t l) f q e = absurd (omega arith)
-  planned_zero (NoPlan k) f q e = absurd (omega arith)
-  planned_zero (Full k) f q e = absurd (omega arith)
+  planned_zero (Err (OfJob v)) f q e = absurd (refusing_alone (refusal_told v).number 0 f.1 (inl refl) e)
+  planned_zero (Err (Short t l)) f q e = absurd (omega arith)
+  planned_zero (Err (NoPlan k)) f q e = absurd (omega arith)
+  planned_zero (Err (Full k)) f q e = absurd (omega arith)
 
   zero_given : told.number ≡ 0 → (rs : Routes) × PlanGiven job before told after rs × SafeGiven job before told after rs
   zero_given e = rw p.is (planned_zero p.answer (known_of job n before told after p) p.planned.promised (number_is 0 e))
@@ -147,22 +149,22 @@ module _ (job : Job) (n : ℕ) (before : Tables) (told : Told) (after : Tables) 
   -- and only for a right job
   zero_right : (r : Answer) → Known job n before r → (answer_told r).number ≡ 0 → RightJob job
   unfolding Known
-  zero_right (Plan s k) f e = ((exactly job n).0 f).0
-  zero_right (Refused v) f e = absurd (refusing_alone (verdict_told v).number 0 f.1 (inl refl) e)
-  zero_right (Short t l) f e = absurd (omega arith)
-  zero_right (NoPlan k) f e = absurd (omega arith)
-  zero_right (Full k) f e = absurd (omega arith)
+  zero_right (Ok p) f e = ((exactly job n).0 f).0
+  zero_right (Err (OfJob v)) f e = absurd (refusing_alone (refusal_told v).number 0 f.1 (inl refl) e)
+  zero_right (Err (Short t l)) f e = absurd (omega arith)
+  zero_right (Err (NoPlan k)) f e = absurd (omega arith)
+  zero_right (Err (Full k)) f e = absurd (omega arith)
 
   right_given : told.number ≡ 0 → RightJob job
   right_given e = zero_right p.answer (known_of job n before told after p) (number_is 0 e)
 
   none_given : (r : Answer) → Known job n before r → Promised job n before r after → (answer_told r).number ≡ 8 → NoneExists job
   unfolding Known Promised
-  none_given (Plan s k) f q e = absurd (omega arith)
-  none_given (Refused v) f q e = absurd (refusing_alone (verdict_told v).number 8 f.1 (inr (omega arith, omega arith)) e)
-  none_given (Short t l) f q e = absurd (omega arith)
-  none_given (NoPlan k) f q e = q.0
-  none_given (Full k) f q e = absurd (omega arith)
+  none_given (Ok p) f q e = absurd (omega arith)
+  none_given (Err (OfJob v)) f q e = absurd (refusing_alone (refusal_told v).number 8 f.1 (inr (omega arith, omega arith)) e)
+  none_given (Err (Short t l)) f q e = absurd (omega arith)
+  none_given (Err (NoPlan k)) f q e = q.0
+  none_given (Err (Full k)) f q e = absurd (omega arith)
 
 pub zero_is_least : ZeroIsLeast OurPlanner
 unfolding ZeroIsLeast

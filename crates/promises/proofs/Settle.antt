@@ -16,11 +16,10 @@ use Rattle.job.specs.Told.{bare, too_short, refusal}
 use Rattle.job.specs.Verdict.{judge_with, judge}
 use Rattle.job.specs.declared.Fault.{Fault}
 use Rattle.job.specs.declared.Told.{Told}
-use Rattle.job.specs.declared.Verdict.TheVariants.{Accepted}
+use Rattle.std.specs.Prelude.{Ok, Some}
 use Rattle.job.proofs.Due.{accepted_exactly, checks_accept_exactly}
 use Rattle.job.proofs.Refused.{accepts_or_not}
 use Rattle.routes.specs.Check.{route_told}
-use Rattle.routes.specs.declared.RouteVerdict.TheVariants.{Wrong}
 use Rattle.clashes.specs.Check.{plan_travel, clash_told}
 use Rattle.clashes.proofs.First.{right_choice_unique}
 use Rattle.checks.specs.Demand.{LawfulRoutes}
@@ -141,7 +140,7 @@ module _ (gives : Planner) (first : RefusesFirst gives) (short : ShortIsSeven gi
           let same : t ≡ t' = short_one job n before t t' first first' in
           (e ∙ ap (λ (k : ℕ). too_short k (needed_length job n k)) same ∙ sym e', x ∙ sym x')
 
-  refused_same : (judge_with (wrong_capacity n) job ≡ Accepted → ⊥) → (told ≡ told') × (after ≡ after')
+  refused_same : (judge_with (wrong_capacity n) job ≡ Ok tt → ⊥) → (told ≡ told') × (after ≡ after')
   unfolding RefusesFirst
   refused_same refused =
       let wrong : RightJob job × RightCapacity n → ⊥ = λ r. refused ((accepted_exactly job n).1 r) in
@@ -149,7 +148,7 @@ module _ (gives : Planner) (first : RefusesFirst gives) (short : ShortIsSeven gi
       let (due', t', x') = refuses_first job n before told' after' p' wrong in
       (t ∙ sym t', x ∙ sym x')
 
-  all_same : (judge_with (wrong_capacity n) job ≡ Accepted) ⊎ (judge_with (wrong_capacity n) job ≡ Accepted → ⊥) → (told ≡ told') × (after ≡ after')
+  all_same : (judge_with (wrong_capacity n) job ≡ Ok tt) ⊎ (judge_with (wrong_capacity n) job ≡ Ok tt → ⊥) → (told ≡ told') × (after ≡ after')
   all_same (inl e) = let (right, capacity) = (accepted_exactly job n).0 e in long_same right capacity
   all_same (inr r) = refused_same r
 
@@ -170,7 +169,7 @@ first_one job plan i t i' t' f f' =
 
 module _ (job : Job) (plan : List ℕ) where
   abbrev RouteFound : Fault → Type 0
-  RouteFound r = (LawfulRoutes job plan × NoneWrong job (plan_cell job plan) × (r ≡ refusal (bare 0))) ⊎ ((i t : ℕ) × FirstWrongPlace job (plan_cell job plan) i t × (r ≡ route_told (Wrong i t)))
+  RouteFound r = (LawfulRoutes job plan × NoneWrong job (plan_cell job plan) × (r ≡ refusal (bare 0))) ⊎ ((i t : ℕ) × FirstWrongPlace job (plan_cell job plan) i t × (r ≡ route_told (Ok (Some (record { carrier = i; step = t })))))
 
   found_one : (r r' : Fault) → RouteFound r → RouteFound r' → r ≡ r'
   unfolding NoneWrong
@@ -179,7 +178,7 @@ module _ (job : Job) (plan : List ℕ) where
   found_one r r' (inr (i, t, f, e)) (inl (law, right, e')) = absurd (not_both f.wrong (right i t f.carrier f.step))
   found_one r r' (inr (i, t, f, e)) (inr (i', t', f', e')) =
       let (x, y) = first_one job plan i t i' t' f f' in
-      e ∙ ap (λ (k : ℕ). route_told (Wrong k t)) x ∙ ap (λ (k : ℕ). route_told (Wrong i' k)) y ∙ sym e'
+      e ∙ ap (λ (k : ℕ). route_told (Ok (Some (record { carrier = k; step = t })))) x ∙ ap (λ (k : ℕ). route_told (Ok (Some (record { carrier = i'; step = k })))) y ∙ sym e'
 
 module _ (routes meetings : Check) (first : ChecksRefuseFirst routes meetings) (short : ShortPlanIsSeven routes meetings) (wrong : FirstWrongTold routes) (chosen : ChosenTold meetings)
     (job : Job) (plan : List ℕ) (r r' m m' : Fault) (p : routes job plan r) (q : meetings job plan m) (p' : OurRoutes job plan r') (q' : OurMeetings job plan m') where
@@ -200,7 +199,7 @@ module _ (routes meetings : Check) (first : ChecksRefuseFirst routes meetings) (
       let (x', y') = short_plan_is_seven job plan r' m' p' q' right cut in
       (x ∙ sym x', y ∙ sym y')
 
-  checks_same : (judge job ≡ Accepted) ⊎ (judge job ≡ Accepted → ⊥) → (r ≡ r') × (m ≡ m')
+  checks_same : (judge job ≡ Ok tt) ⊎ (judge job ≡ Ok tt → ⊥) → (r ≡ r') × (m ≡ m')
   unfolding ChecksRefuseFirst
   checks_same (inl e) = right_same ((checks_accept_exactly job).0 e) (dec_le (plan_length job) (length plan))
   checks_same (inr n) =

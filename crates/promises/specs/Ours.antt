@@ -9,9 +9,8 @@ use Rattle.job.specs.declared.Told.{Told}
 use Rattle.routes.specs.Check.{route_verdict, route_told}
 use Rattle.clashes.specs.Check.{meeting_verdict, meeting_told}
 use Rattle.tables.specs.Tables.{Tables}
-use Rattle.planner.specs.Answer.{answer_told}
+use Rattle.planner.specs.Answer.{Answer, answer_told}
 use Rattle.planner.specs.Post.{Planned}
-use Rattle.planner.specs.declared.Answer.{Answer}
 use Rattle.adfulmise.specs.Lent.{written, told_values, fault_values}
 use Rattle.adfulmise.specs.Post.{Answered, Checked}
 use Rattle.promises.specs.Promises.{Planner, Check, RefusesFirst, ShortIsSeven, TablesLeft, ZeroIsLeast, NineByNeed, ChecksRefuseFirst, ShortPlanIsSeven, FirstWrongTold, ChosenTold}

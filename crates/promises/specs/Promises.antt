@@ -11,7 +11,7 @@
 --
 -- Words used: a job that is right (`RightJob`, in plain numbers), `Lawful` routes and their `cost`, `Apart` (no meeting, no swap),
 -- patterns of holds (`Survives`), the lent `Tables`, and the tree's `NeedIs`: crates job, routes, clashes, tree, tables, in specs/.
-use Rattle.std.specs.Prelude.{ℕ, ◌≤◌, ◌<◌, ◌≡◌, List, ◌++◌, ◌⊎◌, ◌↔◌, length, take}
+use Rattle.std.specs.Prelude.{ℕ, ◌≤◌, ◌<◌, ◌≡◌, List, ◌++◌, ◌⊎◌, ◌↔◌, Ok, Some, length, take}
 use Rattle.std.proofs.Math.Option.{Option, none, some}
 use Rattle.lists.specs.Lists.{range, each}
 use Rattle.lent.specs.Lent.{zeroed}
@@ -19,11 +19,9 @@ use Rattle.job.specs.Job.{Job, plan_length, plan_cell, wrong_capacity}
 use Rattle.job.specs.Due.{RightJob, RightCapacity, Due}
 use Rattle.job.specs.Told.{bare, too_short, refusal, plan_too_short}
 use Rattle.job.specs.Verdict.{judge_with, judge, verdict_told}
-use Rattle.job.specs.declared.Verdict.TheVariants.{Accepted}
 use Rattle.job.specs.declared.Told.{Told}
 use Rattle.job.specs.declared.Fault.{Fault}
 use Rattle.routes.specs.Check.{route_told}
-use Rattle.routes.specs.declared.RouteVerdict.TheVariants.{Wrong}
 use Rattle.clashes.specs.Check.{plan_travel, clash_told}
 use Rattle.clashes.specs.First.{RightChoice}
 use Rattle.clashes.specs.declared.Clash.{Clash}
@@ -35,7 +33,6 @@ use Rattle.tree.specs.Promises.{LeastPlan, NeedIs}
 use Rattle.tables.specs.Tables.{Tables, columns_length, plans_length, layers_length, needed_length, FirstShort, LongTables, plan_written}
 use Rattle.planner.specs.Answer.{answer_told, planned}
 use Rattle.book.specs.Book.{book_verdict}
-use Rattle.book.specs.declared.BookVerdict.TheVariants.{Good}
 use Rattle.lines.specs.Lines.{answer_word, sum_word, records_word, number_line, carrier_line}
 use Rattle.lines.specs.Printed.{job_in}
 use Rattle.lines.specs.Program.{program_tables, program_text}
@@ -56,10 +53,10 @@ pub record Runs (job : Job) (n : ℕ) (before : Tables) : Type 0 where
 -- [accepted_exactly], [checks_accept_exactly] a job is accepted exactly if its numbers are within document 01's limits, for the planner
 -- with N and for the two checks without
 unfoldable pub AcceptedExactly : Type 0
-AcceptedExactly = (job : Job) (n : ℕ) → (judge_with (wrong_capacity n) job ≡ Accepted) ↔ (RightJob job × RightCapacity n)
+AcceptedExactly = (job : Job) (n : ℕ) → (judge_with (wrong_capacity n) job ≡ Ok tt) ↔ (RightJob job × RightCapacity n)
 
 unfoldable pub ChecksAcceptExactly : Type 0
-ChecksAcceptExactly = (job : Job) → (judge job ≡ Accepted) ↔ RightJob job
+ChecksAcceptExactly = (job : Job) → (judge job ≡ Ok tt) ↔ RightJob job
 
 -- ---- 1. 'The planner takes any job and any tables we lend it, checks them itself and always ends with a plan or a numbered refusal.
 -- ---- Document 01 says when each number is given and what every table holds afterwards.'
@@ -214,7 +211,7 @@ unfoldable pub FirstWrongTold : Check → Type 0
 FirstWrongTold routes =
     (job : Job) (plan : List ℕ) (r : Fault) → routes job plan r → RightJob job → plan_length job ≤ length plan
     → (LawfulRoutes job plan × NoneWrong job (plan_cell job plan) × (r ≡ refusal (bare 0)))
-    ⊎ ((i t : ℕ) × FirstWrongPlace job (plan_cell job plan) i t × (r ≡ route_told (Wrong i t)))
+    ⊎ ((i t : ℕ) × FirstWrongPlace job (plan_cell job plan) i t × (r ≡ route_told (Ok (Some (record { carrier = i; step = t })))))
 
 -- [chosen_told] 'The meeting check compares any bytes as cells ... and says 0, or 22 with the meeting or swap chosen by rule 5 and which of
 -- the two it is.'
@@ -233,6 +230,6 @@ ChosenTold meetings =
 -- plan of the job in the book, with no smaller sum; the records are those told; no carrier is left out
 unfoldable pub PlanPrinted : Type 0
 PlanPrinted =
-    (book : List ℕ) → book_verdict book ≡ Good → (answer_told (planned (job_in book) 128 program_tables).answer).number ≡ 0
+    (book : List ℕ) → book_verdict book ≡ Ok tt → (answer_told (planned (job_in book) 128 program_tables).answer).number ≡ 0
     → (rs : Routes) × LeastPlan (job_in book) rs (total (job_in book) rs)
     × (program_text book ≡ number_line answer_word 0 ++ (number_line sum_word (total (job_in book) rs) ++ number_line records_word (answer_told (planned (job_in book) 128 program_tables).answer).records ++ each (λ i. carrier_line i ((job_in book).goal_of i) (route_of rs i)) (range 0 (job_in book).count)))

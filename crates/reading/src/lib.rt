@@ -15,6 +15,7 @@ pub fn read_full<R: Read>(input: &mut R, buffer: &mut [u8]) -> io::Result<usize>
     ensures ended { IfOk result (λ size. size < length buffer.new → IsAtEnd (R.remaining input.new)) }
 {
     let mut size = 0;
+    // A `while`, since each read itself says how far it came; `read_exact` takes an input that ends early for an error.
     while size < buffer.len() {
         let count = input.read(&mut buffer[size..])?;
         if count == 0 {

@@ -8,7 +8,7 @@ use mathlib.Core.List.{List, [], ◌∷◌, ◌++◌, append-nil}
 use lib.ListN.{length, get_or, length-append, get_or-append}
 use lib.Seq.{get_or_at}
 use Rattle.routes.specs.Bars.{Barred}
-use Rattle.records.specs.Columns.{entry, parent_at, bar_at, own_bars, chains, chain_of, Falls}
+use Rattle.records.specs.Columns.{entry, parent_at, bar_at, own_bars, chains, chain_of}
 
 -- ---- a node's chain in the list of chains
 
@@ -38,15 +38,6 @@ module _ (capacity : ℕ) (columns : List ℕ) where
   pub chain_root : chain_of capacity columns 0 ≡ own_bars capacity columns 0
   unfolding chain_of chains
   chain_root = append-nil (own_bars capacity columns 0)
-
-  pub falls_parent : (x : ℕ) → Falls capacity columns x → 0 < x → Falls capacity columns (parent_at capacity columns x)
-  falls_parent x f h =
-      let p : parent_at capacity columns x < x = f.down x h (omega arith) in
-      record { room = f.room; small = f.small; inside = omega arith; down = λ y k l. f.down y k (omega arith) }
-
-  -- as the code goes up: p is the parent that it read
-  pub goes_up : (x p : ℕ) → Falls capacity columns x → (x ≡ 0 → ⊥) → p ≡ parent_at capacity columns x → (p < x) × Falls capacity columns p
-  goes_up x p f n e = rw e (f.down x (omega (arith, n)) (omega arith), falls_parent x f (omega (arith, n)))
 
 -- ---- only entries of nodes up to x count
 

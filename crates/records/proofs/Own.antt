@@ -1,49 +1,15 @@
--- An entry's place, the bar that a record's entries make, and which bars of a chain bind: that of a record's own, then those of its
--- parent's chain. Assumes nothing.
-use Prim.Native.Nat.{ℕ, ◌+◌, ◌*◌, ◌≤◌, ◌<◌}
-use native.Mathlib.Nat.{mul-le-mul}
-use native.Mathlib.Omega.{arith}
+-- Which bars of a chain bind: that of a record's own, then those of its parent's chain. Assumes nothing.
+use Prim.Native.Nat.{ℕ, ◌<◌}
 use mathlib.Core.Path.{◌≡◌, refl, sym}
 use mathlib.Core.List.{List, [], ◌∷◌, ◌++◌, append_assoc}
 use borrow.Author.Tests.{eq-eqb, ne_eqb}
-use lib.Arith.{digits_lt}
 use lib.Dec.{eqb}
 use Rattle.lists.specs.Lists.{only}
 use Rattle.routes.specs.Bars.{Barred, bars_for}
 use Rattle.routes.specs.declared.Bar.{Bar}
 use Rattle.routes.specs.declared.Bar.TheVariants.{Free, Stay, Cross}
-use Rattle.records.specs.Columns.{entry, parent_at, bar_from, bar_at, is_bar, own_bars, chain_of}
+use Rattle.records.specs.Columns.{entry, parent_at, bar_at, is_bar, own_bars, chain_of}
 use Rattle.records.proofs.Chain.{chain_up, chain_root}
-
--- ---- an entry's place
-
-pub record Place (capacity long column node : ℕ) : Type 0 where
-  pub product : column * capacity ≤ 7168
-  pub inside : column * capacity + node < long
-
-pub entry_place : (capacity long column node : ℕ) → node < capacity → capacity ≤ 1024 → 8 * capacity ≤ long → column < 8 → Place capacity long column node
-entry_place capacity long column node n small room c =
-    let l : column * capacity + node < 8 * capacity = digits_lt {q = column} {m = 8} {r = node} {c = capacity} c n in
-    let k : column ≤ 7 = omega arith in
-    record { product = mul-le-mul {n₁ = column} {m₁ = capacity} {n₂ = 7} {m₂ = 1024} k small; inside = omega arith }
-
--- ---- the bar of a record by its kind
-
-pub kind_stay : (kind a b c : ℕ) → kind ≡ 1 → Stay a b c ≡ bar_from kind a b c
-unfolding bar_from
-kind_stay kind a b c e = rw e
-
-pub kind_crossing : (kind a b c : ℕ) → kind ≡ 2 → Cross a b c ≡ bar_from kind a b c
-unfolding bar_from
-kind_crossing kind a b c e = rw e
-
-pub kind_free : (kind a b c : ℕ) → (kind ≡ 1 → ⊥) → (kind ≡ 2 → ⊥) → Free ≡ bar_from kind a b c
-unfolding bar_from
-kind_free kind a b c e f = rw (bar_from, ne_eqb kind 1 e, ne_eqb kind 2 f)
-
-pub bar_of_entries : (capacity : ℕ) (columns : List ℕ) (x : ℕ) (b : Bar) (kind first second third : ℕ) → kind ≡ entry capacity columns 1 x → first ≡ entry capacity columns 3 x → second ≡ entry capacity columns 4 x → third ≡ entry capacity columns 5 x → b ≡ bar_from kind first second third → b ≡ bar_at capacity columns x
-unfolding bar_at
-bar_of_entries capacity columns x b kind first second third k f s t e = rw (k, f, s, t) at e
 
 -- ---- a record's own bar, and its parent's chain
 

@@ -6,6 +6,7 @@ use native.Mathlib.Omega.{arith}
 use mathlib.Core.Path.{◌≡◌, refl, sym, ap, ◌∙◌}
 use mathlib.Core.List.{List}
 use mathlib.Core.Option.{Option, none, some}
+use Rattle.std.specs.Prelude.{None, Some}
 use Rattle.lent.specs.Lent.{SameFrom}
 use Rattle.hall.specs.Hall.{Hall, size}
 use Rattle.routes.specs.declared.Bar.{Bar}
@@ -13,12 +14,11 @@ use Rattle.routes.specs.declared.Bar.TheVariants.{Free}
 use Rattle.marks.specs.Marks.{bound_by}
 use Rattle.layers.specs.Layers.{route_from, sought_of, Filled}
 use Rattle.layers.specs.Post.{SoughtRoute}
-use Rattle.layers.specs.declared.Sought.{Sought}
-use Rattle.layers.specs.declared.Sought.TheVariants.{Nothing, Cost}
+use Rattle.layers.specs.Sought.{Sought}
 use Rattle.layers.proofs.SeekLaws.{free_bar, free_filled}
 use Rattle.writer.specs.Write.{read_route}
 use Rattle.writer.proofs.ReadLaws.{read_is_best}
-use Rattle.route_bench.specs.Answer.{cost_told, written_route, bars_at, Told, Answered}
+use Rattle.route_bench.specs.Answer.{RightArguments, hall_of, cost_told, written_route, bars_at, Told, Answered}
 
 pub refused : (right : Type 0) (hall : Hall) (bars : List Bar) (start goal h : ℕ) (layers stretch : List ℕ) → (right → ⊥) → Answered right hall bars start goal h layers layers stretch stretch 254
 refused right hall bars start goal h layers stretch wrong =
@@ -26,23 +26,23 @@ refused right hall bars start goal h layers stretch wrong =
 
 -- ---- what seeking told
 
-none_cost : (goal : ℕ) (o : Option (List ℕ)) → Nothing ≡ sought_of goal o → 255 ≡ cost_told goal o
+none_cost : (goal : ℕ) (o : Option (List ℕ)) → None ≡ sought_of goal o → 255 ≡ cost_told goal o
 unfolding sought_of cost_told
 none_cost goal none e = refl
 none_cost goal (some r) e = let z : ◌≡◌ {A = ℕ} 0 1 = cc in absurd (omega arith)
 
-none_written : (goal : ℕ) (o : Option (List ℕ)) (xs : List ℕ) → Nothing ≡ sought_of goal o → xs ≡ written_route o xs
+none_written : (goal : ℕ) (o : Option (List ℕ)) (xs : List ℕ) → None ≡ sought_of goal o → xs ≡ written_route o xs
 unfolding sought_of written_route
 none_written goal none xs e = refl
 none_written goal (some r) xs e = let z : ◌≡◌ {A = ℕ} 0 1 = cc in absurd (omega arith)
 
-cost_cost : (goal c : ℕ) (o : Option (List ℕ)) → Cost c ≡ sought_of goal o → c ≡ cost_told goal o
+cost_cost : (goal c : ℕ) (o : Option (List ℕ)) → Some c ≡ sought_of goal o → c ≡ cost_told goal o
 unfolding sought_of cost_told
 cost_cost goal c none e = let z : ◌≡◌ {A = ℕ} 0 1 = cc in absurd (omega arith)
 cost_cost goal c (some r) e = cc
 
 -- where there is a route, what is written is what every route that there is equals
-cost_written : (goal c : ℕ) (o : Option (List ℕ)) (xs written : List ℕ) → Cost c ≡ sought_of goal o → ((r : List ℕ) → o ≡ some r → written ≡ r) → written ≡ written_route o xs
+cost_written : (goal c : ℕ) (o : Option (List ℕ)) (xs written : List ℕ) → Some c ≡ sought_of goal o → ((r : List ℕ) → o ≡ some r → written ≡ r) → written ≡ written_route o xs
 unfolding sought_of written_route
 cost_written goal c none xs written e k = let z : ◌≡◌ {A = ℕ} 0 1 = cc in absurd (omega arith)
 cost_written goal c (some r) xs written e k = k r refl
@@ -67,7 +67,7 @@ module _ (hall : Hall) (start goal h : ℕ) (columns : List ℕ) (capacity node 
   tells : answer ≡ sought_of goal (route_from hall bars start goal h)
   tells = sought.told ∙ ap (sought_of goal) free_route
 
-  pub none_answered : (stretch : List ℕ) → answer ≡ Nothing → Told hall bars start goal h layers filled stretch stretch 255
+  pub none_answered : (stretch : List ℕ) → answer ≡ None → Told hall bars start goal h layers filled stretch stretch 255
   none_answered stretch e =
       record {
         told = none_cost goal (route_from hall bars start goal h) (sym e ∙ tells);
@@ -76,7 +76,7 @@ module _ (hall : Hall) (start goal h : ℕ) (columns : List ℕ) (capacity node 
         kept = past_kept;
       }
 
-  pub cost_answered : (stretch written : List ℕ) (c : ℕ) → answer ≡ Cost c → written ≡ read_route hall.width hall.height h filled start → Told hall bars start goal h layers filled stretch written c
+  pub cost_answered : (stretch written : List ℕ) (c : ℕ) → answer ≡ Some c → written ≡ read_route hall.width hall.height h filled start → Told hall bars start goal h layers filled stretch written c
   cost_answered stretch written c e w =
       record {
         told = cost_cost goal c (route_from hall bars start goal h) (sym e ∙ tells);
@@ -86,4 +86,8 @@ module _ (hall : Hall) (start goal h : ℕ) (columns : List ℕ) (capacity node 
       }
 
 pub answered : (right : Type 0) (hall : Hall) (bars : List Bar) (start goal h : ℕ) (layers filled stretch written : List ℕ) (answer : ℕ) → right → Told hall bars start goal h layers filled stretch written answer → Answered right hall bars start goal h layers filled stretch written answer
-answered right hall bars start goal h layers filled stretch written answer holds told = record { answers = λ r. told; refuses = λ wrong. absurd (wrong holds) }
+answered right hall _ start goal h layers filled stretch written answer holds told = record { answers = λ r. told; refuses = λ wrong. absurd (wrong holds) }
+
+-- the same of the sides that a grid was made of
+pub on_sides : {w h w' h' : ℕ} {bytes : List ℕ} {start goal late : ℕ} {columns : List ℕ} {capacity node : ℕ} {bars : List Bar} {layers filled stretch written : List ℕ} {answer : ℕ} → w' ≡ w → h' ≡ h → Answered (RightArguments bytes w' h' start goal late columns capacity node layers stretch) (hall_of w' h' bytes) bars start goal late layers filled stretch written answer → Answered (RightArguments bytes w h start goal late columns capacity node layers stretch) (hall_of w h bytes) bars start goal late layers filled stretch written answer
+on_sides p q a = rw q at rw p at a

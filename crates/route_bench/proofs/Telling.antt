@@ -2,32 +2,9 @@
 use Prim.Native.Nat.{ℕ, ◌+◌, ◌<◌}
 use native.Mathlib.Decide.{dec_le}
 use native.Mathlib.Omega.{arith}
-use mathlib.Core.Path.{◌≡◌, refl, sym}
+use mathlib.Core.Path.{◌≡◌, sym}
 use mathlib.Core.Bool.{Bool, true, false, true≢false}
-use lib.Dec.{ltb, eqb}
-use borrow.Author.Tests.{ltb-true, ltb-false, eqb-true, eqb-false}
 use Rattle.route_bench.specs.Answer.{Tells}
-
-pub tells_less : (P : Type 0) (a b : ℕ) → (a < b → P) → (P → a < b) → Tells P (ltb a b)
-unfolding Tells
-tells_less P a b to from =
-    (elim (ltb a b) as (λ t. ltb a b ≡ t → Tells P t) [
-      | true ↦ λ e. to (ltb-true a b e)
-      | false ↦ λ e p. let l = ltb-false a b e in let m = from p in omega arith
-    ]) refl
-
-pub tells_equal : (P : Type 0) (a b : ℕ) → (a ≡ b → P) → (P → a ≡ b) → Tells P (eqb a b)
-unfolding Tells
-tells_equal P a b to from =
-    (elim (eqb a b) as (λ t. eqb a b ≡ t → Tells P t) [
-      | true ↦ λ e. to (eqb-true a b e)
-      | false ↦ λ e p. eqb-false a b e (from p)
-    ]) refl
-
-pub tells_same : (P Q : Type 0) (b : Bool) → (P → Q) → (Q → P) → Tells P b → Tells Q b
-unfolding Tells
-tells_same P Q true to from p = to p
-tells_same P Q false to from n = λ q. n (from q)
 
 -- what a test tells, where it held and where it failed
 pub holds : (P : Type 0) (b : Bool) → Tells P b → b ≡ true → P

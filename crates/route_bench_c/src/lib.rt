@@ -1,5 +1,6 @@
 // The best route of a carrier for C and Rust, libroute_bench.a, for the benchmark: the function of crate route_bench that looks at its
-// arguments, exported under its own name with the clauses that it has there.
+// arguments, exported under its own name with the clauses that it has there. A crate of its own: the kit builds a
+// crate as a library or as a static library, and Rattle code stands on `route_bench`.
 #![tactic(auto)]
 
 ghost use Rattle.route_bench.specs.Answer.{RightArguments, hall_of, bars_at, Answered};

@@ -4,7 +4,7 @@
 // they change is counted, and how many would be others by document 01's rule, which has no word of moves.
 #![tactic(auto)]
 
-ghost use Rattle.std.specs.Prelude.{◌+◌, ◌≤◌, ◌<◌};
+ghost use Rattle.std.specs.Prelude.{◌+◌, ◌≤◌, ◌<◌, ◌≡◌, true};
 
 use std::io;
 
@@ -18,53 +18,68 @@ const CLOSED: u8 = 35;
 
 const CELLS: usize = 9;
 
-const LAST_STEP: usize = 5;
+const LAST_STEP: u8 = 5;
+
+// From step 0 to the last.
+const STEPS: usize = 6;
 
 const CAPACITY: usize = 8;
 
-// Where each record column starts.
-const KIND: usize = 8;
-
-const CARRIER: usize = 16;
-
-const FIRST: usize = 24;
-
-const SECOND: usize = 32;
-
-const THIRD: usize = 40;
-
-// Kinds of bar.
-const STAY: usize = 1;
-
-const CROSSING: usize = 2;
+const COLUMN_COUNT: usize = 8;
 
 // The bars that are another carrier's.
-const OTHER_CARRIER: usize = 2;
+const OTHER_CARRIER: u8 = 2;
 
 // No bar binds this carrier.
-const FREE_CARRIER: usize = 9;
+const FREE_CARRIER: u8 = 9;
 
-// Answers that are no cost.
-const REFUSED: usize = 254;
-
+// What the engine answers where there is no route.
 const NO_ROUTE: usize = 255;
 
-// More than the most moves of a way.
-const COST: usize = 8;
+// A cell that no hall has: a bar's, on a move off the grid.
+const NOWHERE: u8 = 99;
 
-// A cell that no hall has: a move off the grid.
-const OFF: usize = 99;
+// A cell for each step up to the horizon, and 0 behind it.
+type Route = [u8; STEPS];
+
+// Open and closed cells, those of the case first.
+type Hall = [u8; CELLS];
+
+// From where to where, on which grid and by which step.
+#[derive(Clone, Copy)]
+struct Trip {
+    width: u8,
+    height: u8,
+    size: u8,
+    start: u8,
+    goal: u8,
+    horizon: u8,
+    ghost in_range: { (1 ≤ width) × (width ≤ 3) × (1 ≤ size) × (size ≤ 9) × (start < size) × (horizon ≤ 5) },
+}
 
 #[derive(Clone, Copy)]
 struct Case {
-    width: usize,
-    height: usize,
-    size: usize,
-    start: usize,
-    goal: usize,
-    h: usize,
-    node: usize,
-    carrier: usize,
+    trip: Trip,
+    node: u8,
+    carrier: u8,
+}
+
+// With the numbers that the engine's records have for them.
+#[derive(Clone, Copy, PartialEq, Eq)]
+enum Kind {
+    None = 0,
+    Stay = 1,
+    Crossing = 2,
+}
+
+// What is kept of a node: the three numbers make a bar of its kind. Where it is no bar it has numbers too, which the engine has to pass
+// over, so they are no fields of the kinds.
+#[derive(Clone, Copy)]
+struct Record {
+    parent: u8,
+    carrier: u8,
+    kind: Kind,
+    numbers: [u8; 3],
 }
 
 // By which rule ways are enumerated: whether bars on crossings bind, and whether moves count.
@@ -74,538 +89,366 @@ struct Rule {
     moves: bool,
 }
 
-// ---- tables
+const RULE: Rule = Rule {
+    crossings: true,
+    moves: true,
+};
 
-fn wide(x: u8) -> usize
-    ensures { result ≤ 255 }
-{
-    x as usize
+const STAYS_ALONE: Rule = Rule {
+    crossings: false,
+    moves: true,
+};
+
+// Document 01's.
+const COST_ALONE: Rule = Rule {
+    crossings: true,
+    moves: false,
+};
+
+// What is found: a way of least cost, then of least moves where they count.
+#[derive(Clone, Copy, PartialEq, Eq)]
+struct Way {
+    cost: usize,
+    moves: usize,
+    route: Route,
 }
 
-fn byte_at(bytes: &[u8], at: usize) -> usize
-    ensures { result ≤ 255 }
-{
-    if at < bytes.len() { wide(bytes[at]) } else { 0 }
+// What is told of it. The route is all 0 where there is none.
+#[derive(Clone, Copy, PartialEq, Eq)]
+struct Told {
+    cost: Option<usize>,
+    route: Route,
 }
 
-fn put_byte(bytes: &mut [u8], at: usize, value: usize) {
-    if at < bytes.len() {
-        bytes[at] = (value % 256) as u8;
-    }
-}
-
-fn wide_entry(x: u16) -> usize {
-    x as usize
-}
-
-fn entry_at(columns: &[u16], at: usize) -> usize {
-    if at < columns.len() {
-        wide_entry(columns[at])
-    } else {
-        0
-    }
-}
-
-fn put_entry(columns: &mut [u16], at: usize, value: usize) {
-    if at < columns.len() {
-        columns[at] = (value % 65536) as u16;
-    }
-}
-
-fn same_bytes(a: &[u8], b: &[u8]) -> bool {
-    let mut i = 0;
-    while i < CELLS {
-        if byte_at(a, i) != byte_at(b, i) {
-            return false;
+impl From<Option<Way>> for Told {
+    fn from(best: Option<Way>) -> Told {
+        Told {
+            cost: best.map(|way| way.cost),
+            route: best.map_or([0; STEPS], |way| way.route),
         }
-        i += 1;
-    }
-    true
-}
-
-fn copy_bytes(from: &[u8], to: &mut [u8]) {
-    let mut i = 0;
-    while i < CELLS {
-        put_byte(to, i, byte_at(from, i));
-        i += 1;
-    }
-}
-
-// ---- moves
-
-// The column of a cell; no hall is wider than 3.
-fn column(width: usize, cell: usize) -> usize
-    ensures { (result ≤ cell) × (result ≤ 2) }
-{
-    match width {
-        1 => 0,
-        2 => cell % 2,
-        _ => cell % 3,
-    }
-}
-
-// The cell that a move leads to; moves rise with the cells that they lead to.
-fn gone(width: usize, size: usize, cell: usize, m: usize) -> usize {
-    if 3 < width {
-        return OFF;
-    }
-    if 8 < cell {
-        return OFF;
-    }
-    let col = column(width, cell);
-    match m {
-        0 => if cell < width { OFF } else { cell - width },
-        1 => if col == 0 { OFF } else { cell - 1 },
-        2 => cell,
-        3 => if col + 1 == width { OFF } else { cell + 1 },
-        _ => if size <= cell + width {
-            OFF
-        } else {
-            cell + width
-        },
     }
 }
 
 // ---- random cases
 
 // A linear congruential generator modulo 2 ^ 31.
-fn next(seed: u64) -> u64 {
-    (seed % 2147483648 * 1103515245 + 12345) % 2147483648
+#[derive(Clone, Copy)]
+struct Random {
+    seed: u64,
 }
 
-// A number below n, of the seed's high digits.
-fn draw(seed: u64, n: usize) -> usize
-    requires { 0 < n }
-    ensures { result < n }
-{
-    (seed / 65536) as usize % n
-}
-
-fn area(width: usize, height: usize) -> usize
-    requires { (1 ≤ width) × (width ≤ 3) }
-    ensures { (1 ≤ result) × (result ≤ 9) }
-{
-    match height {
-        1 => width,
-        2 => width + width,
-        _ => width + width + width,
+impl Random {
+    fn skip(&mut self) {
+        self.seed = (self.seed % 2147483648 * 1103515245 + 12345) % 2147483648;
     }
-}
 
-fn draw_horizon(seed: u64) -> usize {
-    let h = draw(seed, 11);
-    if h < LAST_STEP { h } else { LAST_STEP }
+    // A number below n, of the next seed's high digits.
+    fn draw(&mut self, n: u8) -> u8
+        requires { 0 < n }
+        ensures { result < n }
+    {
+        self.skip();
+        (self.seed / 65536 % u64::from(n)) as u8
+    }
 }
 
 // The horizon is 0 to 5, mostly 5, and the node 0 to 6, where 0 is half as likely as any other.
-fn draw_case(seed: u64) -> Case
-    ensures { 0 < result.size }
-{
-    let s1 = next(seed);
-    let s2 = next(s1);
-    let s3 = next(s2);
-    let s4 = next(s3);
-    let s5 = next(s4);
-    let s6 = next(s5);
-    let s7 = next(s6);
-    let width = draw(s1, 3) + 1;
-    let height = draw(s2, 3) + 1;
-    let size = area(width, height);
-    Case {
+fn draw_case(random: &mut Random) -> Case {
+    let width = random.draw(3) + 1;
+    let height = random.draw(3) + 1;
+    let size = width * height;
+    let start = random.draw(size);
+    let goal = random.draw(size);
+    let horizon = random.draw(11).min(LAST_STEP);
+    let node = (random.draw(13) + 1) / 2;
+    let carrier = random.draw(2);
+    let trip = Trip {
         width,
         height,
         size,
-        start: draw(s3, size),
-        goal: draw(s4, size),
-        h: draw_horizon(s5),
-        node: (draw(s6, 13) + 1) / 2,
-        carrier: draw(s7, 2),
+        start,
+        goal,
+        horizon,
+    };
+    Case {
+        trip,
+        node,
+        carrier,
     }
 }
 
-fn draw_hall(hall: &mut [u8], seed: u64) -> u64 {
-    let mut s = seed;
-    let mut i = 0;
-    while i < hall.len() {
-        s = next(s);
-        hall[i] = if draw(s, 9) == 0 { CLOSED } else { OPEN };
-        i += 1;
+fn draw_hall(random: &mut Random) -> Hall {
+    let mut hall = [OPEN; CELLS];
+    for cell in &mut hall {
+        if random.draw(9) == 0 {
+            *cell = CLOSED;
+        }
     }
-    s
+    hall
 }
 
 // ---- the enumeration
 
-// A digit of a number to the base 5.
-fn digit(code: usize, place: usize) -> usize {
-    match place {
-        0 => code % 5,
-        1 => code / 5 % 5,
-        2 => code / 25 % 5,
-        3 => code / 125 % 5,
-        _ => code / 625 % 5,
-    }
-}
-
-// How many ways there are of h moves.
-fn ways(h: usize) -> usize
-    ensures { result ≤ 3125 }
+// How many ways there are of so many moves.
+fn ways(moves: u8) -> usize
+    requires { moves ≤ 5 }
+    ensures { 0 < result }
 {
-    match h {
-        0 => 1,
-        1 => 5,
-        2 => 25,
-        3 => 125,
-        4 => 625,
-        _ => 3125,
-    }
+    5usize.pow(u32::from(moves))
 }
 
-fn is_open(hall: &[u8], case: Case, cell: usize) -> bool {
-    cell < case.size && byte_at(hall, cell) == wide(OPEN)
-}
-
-// The way of a number, its first move in the highest digit; false where it leaves the grid or enters a closed cell.
-fn walk(hall: &[u8], case: Case, code: usize, route: &mut [u8]) -> bool {
-    let h = case.h;
-    let mut cell = case.start;
-    put_byte(route, 0, cell);
-    let mut t = 0;
-    while t < h {
-        cell = gone(case.width, case.size, cell, digit(code, h - 1 - t));
-        if !is_open(hall, case, cell) {
-            return false;
+impl Trip {
+    // The cell that a move leads to, if it is on the grid; moves rise with the cells that they lead to.
+    fn gone(self, cell: u8, turn: u8) -> Option<u8>
+        requires { cell < self.size }
+    {
+        let column = cell % self.width;
+        match turn {
+            0 => cell.checked_sub(self.width),
+            1 => if column == 0 { None } else { Some(cell - 1) },
+            2 => Some(cell),
+            3 => if column + 1 == self.width {
+                None
+            } else {
+                Some(cell + 1)
+            },
+            _ => Some(cell + self.width).filter(|below| *below < self.size),
         }
-        t += 1;
-        put_byte(route, t, cell);
     }
-    is_open(hall, case, case.start)
-}
 
-// 'may not be on a cell from step a to step b'
-fn obeys_stay(route: &[u8], h: usize, cell: usize, first: usize, last: usize) -> bool {
-    let mut t = 0;
-    while t <= LAST_STEP {
-        if t <= h && first <= t && t <= last && byte_at(route, t) == cell {
-            return false;
+    fn is_open(self, hall: &Hall, cell: u8) -> bool
+        ensures { result ≡ true → cell < self.size }
+    {
+        cell < self.size && hall[usize::from(cell)] == OPEN
+    }
+
+    // The way of a number, its first move in the highest digit to the base 5, unless it leaves the grid or enters a closed cell.
+    fn walk(self, hall: &Hall, code: usize) -> Option<Route> {
+        if !self.is_open(hall, self.start) {
+            return None;
         }
-        t += 1;
+        let mut route = [0; STEPS];
+        let mut cell = self.start;
+        route[0] = cell;
+        for t in 0..self.horizon {
+            let turn = code / ways(self.horizon - 1 - t) % 5;
+            cell = self.gone(cell, turn as u8)?;
+            if !self.is_open(hall, cell) {
+                return None;
+            }
+            route[usize::from(t) + 1] = cell;
+        }
+        Some(route)
     }
-    true
 }
 
-// 'may not go from one cell to another between t and t + 1'
-fn obeys_crossing(route: &[u8], h: usize, from: usize, to: usize, step: usize) -> bool {
-    if h <= step {
-        return true;
-    }
-    byte_at(route, step) != from || byte_at(route, step + 1) != to
-}
+impl Record {
+    const NONE: Record = Record {
+        parent: 0,
+        carrier: 0,
+        kind: Kind::None,
+        numbers: [0; 3],
+    };
 
-fn obeys_record(columns: &[u16], case: Case, rule: Rule, node: usize, route: &[u8]) -> bool {
-    if CAPACITY <= node {
-        return true;
+    // 'may not be on a cell from step a to step b'; 'may not go from one cell to another between t and t + 1'
+    fn allows(self, steps: &[u8]) -> bool {
+        let [one, two, three] = self.numbers;
+        match self.kind {
+            Kind::None => true,
+            Kind::Stay => !steps.iter().enumerate().any(|(t, cell)| usize::from(two) <= t
+                && t <= usize::from(three)
+                && *cell == one),
+            Kind::Crossing => !steps.windows(2).enumerate().any(|(t, pair)| t == usize::from(three)
+                && pair[0] == one
+                && pair[1] == two),
+        }
     }
-    if entry_at(columns, CARRIER + node) != case.carrier {
-        return true;
+
+    fn obeyed(self, case: Case, rule: Rule, steps: &[u8]) -> bool {
+        let binds = self.carrier == case.carrier && (rule.crossings || self.kind != Kind::Crossing);
+        !binds || self.allows(steps)
     }
-    let kind = entry_at(columns, KIND + node);
-    let first = entry_at(columns, FIRST + node);
-    let second = entry_at(columns, SECOND + node);
-    let third = entry_at(columns, THIRD + node);
-    if kind == STAY {
-        return obeys_stay(route, case.h, first, second, third);
-    }
-    if kind == CROSSING && rule.crossings {
-        return obeys_crossing(route, case.h, first, second, third);
-    }
-    true
 }
 
 // The records of the node and its ancestors; the root is its own parent.
-fn obeys(columns: &[u16], case: Case, rule: Rule, route: &[u8]) -> bool {
+fn obeys(records: &[Record; CAPACITY], case: Case, rule: Rule, steps: &[u8]) -> bool {
     let mut node = case.node;
-    let mut i = 0;
-    while i < CAPACITY {
-        if !obeys_record(columns, case, rule, node, route) {
+    for _ in 0..CAPACITY {
+        let Some(record) = records.get(usize::from(node)) else {
+            return true;
+        };
+        if !record.obeyed(case, rule, steps) {
             return false;
         }
-        node = entry_at(columns, node);
-        i += 1;
+        node = record.parent;
     }
     true
 }
 
-// The step after this one if it is not on the goal, or the cost so far.
-fn cost_at(route: &[u8], case: Case, t: usize, cost: usize) -> usize
-    requires { (cost ≤ t) × (t ≤ 5) }
-    ensures { result ≤ t + 1 }
-{
-    if t <= case.h && byte_at(route, t) != case.goal {
-        return t + 1;
-    }
-    cost
-}
-
-// The step after the last that is not on the goal.
-fn cost_of(route: &[u8], case: Case) -> usize
-    ensures { result ≤ 6 }
-{
-    let mut cost = 0;
-    let mut t = 0;
-    while t <= LAST_STEP {
-        cost = cost_at(route, case, t, cost);
-        t += 1;
-    }
-    cost
-}
-
-// One where the step after this one is on another cell.
-fn move_at(route: &[u8], h: usize, t: usize) -> usize
-    requires { t < 5 }
-    ensures { result ≤ 1 }
-{
-    if t < h && byte_at(route, t) != byte_at(route, t + 1) {
-        return 1;
-    }
-    0
-}
-
-fn moves_of(route: &[u8], h: usize) -> usize
-    ensures { result ≤ 5 }
-{
-    let mut moves = 0;
-    let mut t = 0;
-    while t < LAST_STEP {
-        moves += move_at(route, h, t);
-        t += 1;
-    }
-    moves
-}
-
-// Cost and moves in one number: of two ways the better has the smaller, and of two as good the first in dictionary order is best.
-fn weighed(route: &[u8], case: Case, rule: Rule) -> usize {
-    let cost = cost_of(route, case);
-    if rule.moves {
-        return COST * cost + moves_of(route, case.h);
-    }
-    COST * cost
-}
-
-fn cost_in(weight: usize) -> usize {
-    if weight == NO_ROUTE {
-        return NO_ROUTE;
-    }
-    weight / COST
-}
-
-// What the way of a number weighs, if it is a route that obeys its bars.
+// The way of a number, if it is a route that obeys its bars: its cost is the step after the last that is not on the goal.
 fn judged(
-    hall: &[u8],
-    columns: &[u16],
+    hall: &Hall,
+    records: &[Record; CAPACITY],
     case: Case,
     rule: Rule,
     code: usize,
-    route: &mut [u8],
-) -> usize {
-    if !walk(hall, case, code, route) {
-        return NO_ROUTE;
+) -> Option<Way> {
+    let goal = case.trip.goal;
+    let route = case.trip.walk(hall, code)?;
+    let end = usize::from(case.trip.horizon);
+    let steps = &route[..=end];
+    if steps[end] != goal || !obeys(records, case, rule, steps) {
+        return None;
     }
-    if byte_at(route, case.h) != case.goal {
-        return NO_ROUTE;
-    }
-    if !obeys(columns, case, rule, route) {
-        return NO_ROUTE;
-    }
-    weighed(route, case, rule)
+    let cost = steps
+        .iter()
+        .rposition(|cell| *cell != goal)
+        .map_or(0, |t| t + 1);
+    let moves = steps.windows(2).filter(|pair| pair[0] != pair[1]).count();
+    Some(Way {
+        cost,
+        moves: if rule.moves { moves } else { 0 },
+        route,
+    })
 }
 
-// Keeps the way of a number if it weighs less than those before it.
-fn tried(
-    hall: &[u8],
-    columns: &[u16],
-    case: Case,
-    rule: Rule,
-    code: usize,
-    least: usize,
-    kept: &mut [u8],
-) -> usize {
-    let mut route = [0u8; 9];
-    let weight = judged(hall, columns, case, rule, code, &mut route);
-    if weight < least {
-        copy_bytes(&route, kept);
-        return weight;
-    }
-    least
-}
-
-// The first way of least weight, all taken in dictionary order.
-fn enumerated(hall: &[u8], columns: &[u16], case: Case, rule: Rule, kept: &mut [u8]) -> usize {
-    let end = ways(case.h);
-    let mut least = NO_ROUTE;
-    let mut code = 0;
-    while code < end {
-        least = tried(hall, columns, case, rule, code, least, kept);
-        code += 1;
-    }
-    least
+// The first way of least cost and moves, all taken in dictionary order.
+fn enumerated(hall: &Hall, records: &[Record; CAPACITY], case: Case, rule: Rule) -> Option<Way> {
+    (0..ways(case.trip.horizon))
+        .filter_map(|code| judged(hall, records, case, rule, code))
+        .min_by_key(|way| (way.cost, way.moves))
 }
 
 // ---- random records
 
 // A parent of a smaller number, mostly the next smaller.
-fn draw_parent(seed: u64, node: usize) -> usize {
+fn draw_parent(mut random: Random, node: u8) -> u8
+    ensures { result ≤ node }
+{
     if node == 0 {
         return 0;
     }
-    if draw(seed, 4) == 0 {
-        return draw(next(seed), node);
+    if random.draw(4) == 0 {
+        return random.draw(node);
     }
     node - 1
 }
 
 // Three numbers that make a bar of a kind, anywhere.
-fn draw_bar(columns: &mut [u16], case: Case, node: usize, kind: usize, seed: u64)
-    requires { (node < 8) × (0 < case.size) }
-{
-    let s1 = next(seed);
-    let s2 = next(s1);
-    let s3 = next(s2);
-    let cell = draw(s1, case.size);
-    let step = draw(s2, LAST_STEP);
-    put_entry(columns, FIRST + node, cell);
-    if kind == CROSSING {
-        put_entry(
-            columns,
-            SECOND + node,
-            gone(case.width, case.size, cell, draw(s3, 5)),
-        );
-        put_entry(columns, THIRD + node, step);
-    } else {
-        put_entry(columns, SECOND + node, step);
-        put_entry(columns, THIRD + node, step + draw(s3, 3));
+fn draw_bar(trip: Trip, kind: Kind, random: &mut Random) -> [u8; 3] {
+    let cell = random.draw(trip.size);
+    let step = random.draw(LAST_STEP);
+    if kind == Kind::Crossing {
+        let to = trip.gone(cell, random.draw(5)).unwrap_or(NOWHERE);
+        return [cell, to, step];
     }
+    [cell, step, step + random.draw(3)]
 }
 
-// Three that make one on a route: of a step of it, or of a cell up to a step at which the route is there.
-fn draw_bar_on(columns: &mut [u16], route: &[u8], node: usize, kind: usize, seed: u64)
-    requires { node < 8 }
-{
-    let s1 = next(seed);
-    let s2 = next(s1);
-    let step = draw(s1, LAST_STEP);
-    put_entry(columns, FIRST + node, byte_at(route, step));
-    if kind == CROSSING {
-        put_entry(columns, SECOND + node, byte_at(route, step + 1));
-        put_entry(columns, THIRD + node, step);
-    } else {
-        put_entry(columns, SECOND + node, draw(s2, step + 1));
-        put_entry(columns, THIRD + node, step);
+// Three that make one on a route: of a step of it, or of a cell up to a step at which the route is there. They use up as many numbers.
+fn draw_bar_on(route: &Route, kind: Kind, random: &mut Random) -> [u8; 3] {
+    let step = random.draw(LAST_STEP);
+    let first = random.draw(step + 1);
+    random.skip();
+    let at = usize::from(step);
+    if kind == Kind::Crossing {
+        return [route[at], route[at + 1], step];
     }
-}
-
-fn at_node(case: Case, node: usize) -> Case {
-    Case {
-        width: case.width,
-        height: case.height,
-        size: case.size,
-        start: case.start,
-        goal: case.goal,
-        h: case.h,
-        node,
-        carrier: case.carrier,
-    }
+    [route[at], first, step]
 }
 
 // A bar on the best route that its ancestors leave, if they leave one, and now and then anywhere.
-fn draw_bar_for(hall: &[u8], columns: &mut [u16], case: Case, node: usize, kind: usize, seed: u64)
-    requires { (node < 8) × (0 < case.size) }
+fn draw_bar_for(
+    hall: &Hall,
+    records: &[Record; CAPACITY],
+    case: Case,
+    kind: Kind,
+    random: &mut Random,
+) -> [u8; 3] {
+    let anywhere = random.draw(4) == 0;
+    match enumerated(hall, records, case, RULE) {
+        Some(way) if !anywhere => draw_bar_on(&way.route, kind, random),
+        _ => draw_bar(case.trip, kind, random),
+    }
+}
+
+// The record is no bar until its kind is written. The parent is drawn ahead, by numbers of which its kind is drawn again.
+fn draw_record(hall: &Hall, records: &mut [Record; CAPACITY], case: Case, random: &mut Random)
+    requires { case.node < 8 }
 {
-    let mut route = [0u8; 9];
-    let rule = Rule {
-        crossings: true,
-        moves: true,
+    let parent = draw_parent(*random, case.node);
+    random.skip();
+    let kind = match random.draw(3) {
+        0 => Kind::None,
+        1 => Kind::Stay,
+        _ => Kind::Crossing,
     };
-    let weight = enumerated(hall, columns, at_node(case, node), rule, &mut route);
-    if weight == NO_ROUTE || draw(seed, 4) == 0 {
-        draw_bar(columns, case, node, kind, seed);
+    let carrier = if random.draw(3) == 0 {
+        OTHER_CARRIER
     } else {
-        draw_bar_on(columns, &route, node, kind, seed);
-    }
+        case.carrier
+    };
+    let record = Record {
+        parent,
+        carrier,
+        ..Record::NONE
+    };
+    records[usize::from(case.node)] = record;
+    let numbers = draw_bar_for(hall, records, case, kind, random);
+    records[usize::from(case.node)] = Record {
+        kind,
+        numbers,
+        ..record
+    };
 }
 
-fn draw_carrier(seed: u64, case: Case) -> usize {
-    if draw(seed, 3) == 0 {
-        return OTHER_CARRIER;
+fn draw_records(hall: &Hall, case: Case, random: &mut Random) -> [Record; CAPACITY] {
+    let mut records = [Record::NONE; CAPACITY];
+    for node in 0..CAPACITY as u8 {
+        draw_record(hall, &mut records, Case { node, ..case }, random);
     }
-    case.carrier
-}
-
-// The record is no bar until its kind is written.
-fn draw_record(hall: &[u8], columns: &mut [u16], case: Case, node: usize, seed: u64) -> u64
-    requires { (node < 8) × (0 < case.size) }
-{
-    let s1 = next(seed);
-    let s2 = next(s1);
-    let s3 = next(s2);
-    let s4 = next(s3);
-    let kind = draw(s2, 3);
-    put_entry(columns, node, draw_parent(s1, node));
-    put_entry(columns, CARRIER + node, draw_carrier(s3, case));
-    draw_bar_for(hall, columns, case, node, kind, s4);
-    put_entry(columns, KIND + node, kind);
-    next(next(next(s4)))
-}
-
-fn draw_columns(hall: &[u8], columns: &mut [u16], case: Case, seed: u64) -> u64
-    requires { 0 < case.size }
-{
-    let mut s = seed;
-    let mut node = 0;
-    while node < CAPACITY {
-        s = draw_record(hall, columns, case, node, s);
-        node += 1;
-    }
-    s
+    records
 }
 
 // ---- the comparison
 
-// The engine's answer, with the route in the first h + 1 bytes of the stretch.
-fn engine(
-    hall: &[u8],
-    columns: &[u16],
-    case: Case,
-    carrier: usize,
-    layers: &mut [u8],
-    stretch: &mut [u8],
-) -> usize {
-    let size = case.size;
-    let h = case.h;
-    if LAST_STEP < h {
-        return REFUSED;
+// The columns that the engine reads. It has two more, of sums and open records, which it does not read for a route.
+fn columns_of(records: &[Record; CAPACITY]) -> [u16; COLUMN_COUNT * CAPACITY] {
+    let mut columns = [0u16; COLUMN_COUNT * CAPACITY];
+    for (node, record) in records.iter().enumerate() {
+        let [one, two, three] = record.numbers;
+        columns[node] = u16::from(record.parent);
+        columns[CAPACITY + node] = record.kind as u16;
+        columns[2 * CAPACITY + node] = u16::from(record.carrier);
+        columns[3 * CAPACITY + node] = u16::from(one);
+        columns[4 * CAPACITY + node] = u16::from(two);
+        columns[5 * CAPACITY + node] = u16::from(three);
     }
-    let end = h + 1;
-    if hall.len() < size {
-        return REFUSED;
-    }
-    if stretch.len() < end {
-        return REFUSED;
-    }
-    route_bench::adfulmise_best_route(
-        &hall[0..size],
-        case.width,
-        case.height,
-        case.start,
-        case.goal,
-        h,
+    columns
+}
+
+// The engine's answer: 254, for arguments that are not right, would be no cost of any way.
+fn engine(hall: &Hall, columns: &[u16], case: Case, carrier: u8, layers: &mut [u8]) -> Told {
+    let trip = case.trip;
+    let mut route = [0; STEPS];
+    let cost = route_bench::adfulmise_best_route(
+        &hall[..usize::from(trip.size)],
+        usize::from(trip.width),
+        usize::from(trip.height),
+        usize::from(trip.start),
+        usize::from(trip.goal),
+        usize::from(trip.horizon),
         columns,
         CAPACITY,
-        case.node,
-        carrier,
+        usize::from(case.node),
+        usize::from(carrier),
         layers,
-        &mut stretch[0..end],
-    )
+        &mut route[..=usize::from(trip.horizon)],
+    );
+    Told {
+        cost: Some(cost).filter(|cost| *cost != NO_ROUTE),
+        route,
+    }
 }
 
 // What one round shows: whether engine and enumeration differ, whether there is a route, whether the bars change the answer, whether those on
@@ -619,48 +462,25 @@ struct Shown {
     older: bool,
 }
 
-// Are two answers not the same?
-fn other(told: usize, route: &[u8], other_told: usize, other_route: &[u8]) -> bool {
-    told != other_told || !same_bytes(route, other_route)
-}
-
-fn compared(hall: &[u8], columns: &[u16], case: Case) -> Shown {
+fn compared(hall: &Hall, records: &[Record; CAPACITY], case: Case) -> Shown {
+    let columns = columns_of(records);
     let mut layers = [165u8; 108];
-    let mut stretch = [0u8; 9];
-    let mut free = [0u8; 9];
-    let mut kept = [0u8; 9];
-    let mut stays = [0u8; 9];
-    let mut first = [0u8; 9];
-    let told = engine(hall, columns, case, case.carrier, &mut layers, &mut stretch);
-    let told_free = engine(hall, columns, case, FREE_CARRIER, &mut layers, &mut free);
-    let rule = Rule {
-        crossings: true,
-        moves: true,
-    };
-    let stays_alone = Rule {
-        crossings: false,
-        moves: true,
-    };
-    let no_moves = Rule {
-        crossings: true,
-        moves: false,
-    };
-    let least = enumerated(hall, columns, case, rule, &mut kept);
-    let least_stays = enumerated(hall, columns, case, stays_alone, &mut stays);
-    let least_first = enumerated(hall, columns, case, no_moves, &mut first);
+    let told = engine(hall, &columns, case, case.carrier, &mut layers);
+    let told_free = engine(hall, &columns, case, FREE_CARRIER, &mut layers);
+    let best = enumerated(hall, records, case, RULE);
+    let best_by_cost = enumerated(hall, records, case, COST_ALONE);
     Shown {
-        differ: other(told, &stretch, cost_in(least), &kept),
-        found: least != NO_ROUTE,
-        barred: other(told, &stretch, told_free, &free),
-        crossed: other(least, &kept, least_stays, &stays),
-        older: other(cost_in(least), &kept, cost_in(least_first), &first),
+        differ: told != Told::from(best),
+        found: best.is_some(),
+        barred: told != told_free,
+        crossed: best != enumerated(hall, records, case, STAYS_ALONE),
+        older: Told::from(best) != Told::from(best_by_cost),
     }
 }
 
-// What was seen in the rounds so far.
-#[derive(Clone, Copy)]
+// How many of the rounds so far showed it.
+#[derive(Clone, Copy, Default)]
 struct Seen {
-    seed: u64,
     differ: usize,
     found: usize,
     barred: usize,
@@ -668,71 +488,44 @@ struct Seen {
     older: usize,
 }
 
-fn plus(n: usize, b: bool) -> usize
-    requires { n ≤ 600 }
-    ensures { result ≤ n + 1 }
-{
-    if b { n + 1 } else { n }
-}
-
-fn counted(seen: Seen, shown: Shown, seed: u64) -> Seen
-    requires { (seen.differ ≤ 600) × (seen.found ≤ 600) × (seen.barred ≤ 600) × (seen.crossed ≤ 600) × (seen.older ≤ 600) }
-    ensures { (result.differ ≤ seen.differ + 1) × (result.found ≤ seen.found + 1) × (result.barred ≤ seen.barred + 1) × (result.crossed ≤ seen.crossed + 1) × (result.older ≤ seen.older + 1) }
-{
-    Seen {
-        seed,
-        differ: plus(seen.differ, shown.differ),
-        found: plus(seen.found, shown.found),
-        barred: plus(seen.barred, shown.barred),
-        crossed: plus(seen.crossed, shown.crossed),
-        older: plus(seen.older, shown.older),
+impl Seen {
+    fn add(&mut self, shown: Shown)
+        requires { (self.old.differ ≤ 600) × (self.old.found ≤ 600) × (self.old.barred ≤ 600) × (self.old.crossed ≤ 600) × (self.old.older ≤ 600) }
+        ensures { (self.new.differ ≤ self.old.differ + 1) × (self.new.found ≤ self.old.found + 1) × (self.new.barred ≤ self.old.barred + 1) × (self.new.crossed ≤ self.old.crossed + 1) × (self.new.older ≤ self.old.older + 1) }
+    {
+        self.differ += usize::from(shown.differ);
+        self.found += usize::from(shown.found);
+        self.barred += usize::from(shown.barred);
+        self.crossed += usize::from(shown.crossed);
+        self.older += usize::from(shown.older);
     }
 }
 
-fn one_more(seen: Seen) -> Seen
-    requires { (seen.differ ≤ 600) × (seen.found ≤ 600) × (seen.barred ≤ 600) × (seen.crossed ≤ 600) × (seen.older ≤ 600) }
-    ensures { (result.differ ≤ seen.differ + 1) × (result.found ≤ seen.found + 1) × (result.barred ≤ seen.barred + 1) × (result.crossed ≤ seen.crossed + 1) × (result.older ≤ seen.older + 1) }
-{
-    let mut hall = [0u8; 9];
-    let mut columns = [0u16; 64];
-    let case = draw_case(seen.seed);
-    let s1 = draw_hall(
-        &mut hall,
-        next(next(next(next(next(next(next(seen.seed))))))),
-    );
-    let s2 = draw_columns(&hall, &mut columns, case, s1);
-    let shown = compared(&hall, &columns, case);
-    counted(seen, shown, s2)
+fn one_round(random: &mut Random) -> Shown {
+    let case = draw_case(random);
+    let hall = draw_hall(random);
+    let records = draw_records(&hall, case, random);
+    compared(&hall, &records, case)
 }
 
 fn all_rounds() -> Seen {
-    let mut seen = Seen {
-        seed: SEED,
-        differ: 0,
-        found: 0,
-        barred: 0,
-        crossed: 0,
-        older: 0,
-    };
-    let mut i = 0;
-    while i < ROUNDS {
-        seen = one_more(seen);
-        i += 1;
+    let mut random = Random { seed: SEED };
+    let mut seen = Seen::default();
+    for _ in 0..ROUNDS {
+        seen.add(one_round(&mut random));
     }
     seen
 }
 
-fn show(rt: &impl Print, n: usize, text: &[u8]) -> io::Result<()> {
-    print!(rt; "{n}")?;
-    rt.write_all(text)
-}
-
 fn main(rt: HostRuntime) -> io::Result<()> {
-    let seen = all_rounds();
-    show(&rt, ROUNDS, b" routes compared, ")?;
-    show(&rt, seen.differ, b" differ\n")?;
-    show(&rt, seen.found, b" found, ")?;
-    show(&rt, seen.barred, b" changed by bars, ")?;
-    show(&rt, seen.crossed, b" by crossings\n")?;
-    show(&rt, seen.older, b" would be others by document 01's rule\n")
+    let Seen {
+        differ,
+        found,
+        barred,
+        crossed,
+        older,
+    } = all_rounds();
+    println!(rt; "{ROUNDS} routes compared, {differ} differ")?;
+    println!(rt; "{found} found, {barred} changed by bars, {crossed} by crossings")?;
+    println!(rt; "{older} would be others by document 01's rule")
 }

@@ -3,7 +3,7 @@ use Prim.Native.Nat.{ℕ, ◌+◌, ◌*◌, ◌≤◌, ◌<◌}
 use native.Mathlib.Nat.{lt_of_mul-lt-mul_right}
 use native.Mathlib.Omega.{arith}
 use native.Mathlib.Decide.{ℕ_discrete}
-use mathlib.Core.Path.{◌≡◌, refl, ◌∙◌}
+use mathlib.Core.Path.{◌≡◌, ◌∙◌}
 use mathlib.Core.List.{List}
 use lib.ListN.{length, get_or, set, length-set}
 use lib.Seq.{get_or-set_same, get_or-set_other}
@@ -19,9 +19,6 @@ pub record EachTo (m first until stride : ℕ) (before : List ℕ) (v : ℕ) (af
   pub other : (x : ℕ) → ((k : ℕ) → k < turns → x ≡ m * 256 + (first + k * stride) → ⊥) → get_or after x 0 ≡ get_or before x 0
 
 module _ (m first until stride : ℕ) (a : List ℕ) where
-  pub each_none : EachTo m first until stride a first a
-  each_none = record { turns = 0; place = omega arith; below = λ k h. absurd (omega arith); long = refl; shut = λ k h. absurd (omega arith); other = λ x f. refl }
-
   pub each_more : (v : ℕ) (b : List ℕ) → EachTo m first until stride a v b → v < until → m * 256 + v < length a → EachTo m first until stride a (v + stride) (set b (m * 256 + v) 255)
   each_more v b s h room =
       record {

@@ -10,19 +10,6 @@ use Rattle.shuts.specs.Shuts.{has_digit, aside, shut_if, Shut, Floor}
 use Rattle.shuts.specs.Post.{CrossingsLaid, LaidAt}
 use Rattle.shuts.proofs.FloorLaws.{no_digit}
 
--- ---- what the code leaves
-
-module _ (crossing : Bool) (floor layers : List ℕ) (from n : ℕ) (before : List ℕ) where
-  pub barred_laid : (after : List ℕ) → crossing ≡ true → CrossingsLaid floor layers from n before after → LaidAt crossing floor layers from n before after
-  unfolding LaidAt
-  barred_laid after e laid = rw e laid
-
-  pub nothing_laid : crossing ≡ false → LaidAt crossing floor layers from n before before
-  unfolding LaidAt
-  nothing_laid e = rw e
-
--- ---- what that tells
-
 module _ (floor layers : List ℕ) (from n : ℕ) (before after : List ℕ) where
   pub laid_crossings : LaidAt true floor layers from n before after → CrossingsLaid floor layers from n before after
   unfolding LaidAt

@@ -22,6 +22,7 @@ pub const STAY: usize = 2;
 const SHUT: u8 = 255;
 
 // Is the binary digit of move m set?
+#[tactic(auto, unfolding(crate::specs::Shuts::has_digit))]
 pub fn has_digit(digits: u8, m: usize) -> bool
     requires { m < 5 }
     ensures { result ≡ has_digit digits m }
@@ -29,29 +30,22 @@ pub fn has_digit(digits: u8, m: usize) -> bool
     (digits >> m) % 2 == 1
 }
 
+#[tactic(auto, unfolding(crate::specs::Shuts::shut_if))]
 fn shut_if(shut: bool) -> u8
     ensures { result ≡ shut_if shut }
 {
     if shut { SHUT } else { 0 }
 }
 
-fn greater(a: u8, b: u8) -> u8
-    ensures { result ≡ max a b }
-{
-    if a <= b { b } else { a }
-}
-
 // ---- the floor
 
 // The closed cells. Where entries are written the table is lent as a slice, whose length a contract can name.
-fn shut_closed(hall: &[u8], size: usize, shuts: &mut [u8])
-    requires { (size ≤ 256) × (size ≤ length hall.now) × (length shuts.old ≡ 1536) }
-    ensures { Made 1280 size (λ v x. shut_if (not (eqb (get_or hall.now v 0) 46))) shuts.old shuts.new }
+fn shut_closed(hall: &[u8], shuts: &mut [u8])
+    requires { (length hall.now ≤ 256) × (length shuts.old ≡ 1536) }
+    ensures { Made 1280 (length hall.now) (λ v x. shut_if (not (eqb (get_or hall.now v 0) 46))) shuts.old shuts.new }
 {
-    let mut v = 0;
-    while v < size {
-        shuts[CLOSED + v] = shut_if(hall[v] != hall::OPEN);
-        v += 1;
+    for (v, cell) in hall.iter().enumerate() {
+        shuts[CLOSED + v] = shut_if(*cell != hall::OPEN);
     }
 }
 
@@ -60,20 +54,19 @@ fn shut_each(m: usize, first: usize, until: usize, stride: usize, shuts: &mut [u
     requires { (m < 5) × (until ≤ 256) × (1 ≤ stride) × (stride ≤ 256) × (length shuts.old ≡ 1536) }
     ensures { ShutEach m first until stride shuts.old shuts.new }
 {
-    let mut v = first;
-    while v < until {
+    for v in (first..until).step_by(stride) {
         shuts[m * CELLS + v] = SHUT;
-        v += stride;
     }
 }
 
 // What no bar changes: 'It never leaves the grid nor enters a closed cell.' Left leaves it from the first column, right from the last.
+// Bytes and grid stand apart as in `layers::seek_route`.
 pub fn lay_floor(hall: &[u8], grid: Grid, shuts: &mut [u8; SHUTS])
     requires { RightGrid grid hall.now × (shuts.old ≡ replicate 1536 0) }
     ensures { FloorLaid (lent_hall grid hall.now) shuts.old shuts.new }
 {
-    let size = grid.width * grid.height;
-    shut_closed(hall, size, shuts);
+    let size = grid.size();
+    shut_closed(hall, shuts);
     shut_each(1, 0, size, grid.width, shuts);
     shut_each(3, grid.width - 1, size, grid.width, shuts);
 }
@@ -81,46 +74,28 @@ pub fn lay_floor(hall: &[u8], grid: Grid, shuts: &mut [u8; SHUTS])
 // ---- the bars of a step
 
 // The bytes of one move: the floor's, and shut where a bar has set its digit.
-fn shut_crossings(
-    floor: &[u8; SHUTS],
-    layers: &[u8],
-    from: usize,
-    size: usize,
-    m: usize,
-    shuts: &mut [u8],
-)
-    requires { (m < 5) × (size ≤ 256) × (from + size ≤ length layers.now) × (length shuts.old ≡ 1536) }
-    ensures { Made (m * 256) size (λ v x. max (get_or floor.now (m * 256 + v) 0) (shut_if (has_digit (get_or layers.now (from + v) 0) m))) shuts.old shuts.new }
+fn shut_crossings(floor: &[u8; SHUTS], digits: &[u8], m: usize, shuts: &mut [u8])
+    requires { (m < 5) × (length digits.now ≤ 256) × (length shuts.old ≡ 1536) }
+    ensures { Made (m * 256) (length digits.now) (λ v x. max (get_or floor.now (m * 256 + v) 0) (shut_if (has_digit (get_or digits.now v 0) m))) shuts.old shuts.new }
 {
-    let mut v = 0;
-    while v < size {
-        shuts[m * CELLS + v] = greater(
-            floor[m * CELLS + v],
-            shut_if(has_digit(layers[from + v], m)),
-        );
-        v += 1;
+    for (v, cell) in digits.iter().enumerate() {
+        let barred = shut_if(has_digit(*cell, m));
+        shuts[m * CELLS + v] = floor[m * CELLS + v].max(barred);
     }
 }
 
-fn lay_crossings(
-    floor: &[u8; SHUTS],
-    layers: &[u8],
-    from: usize,
-    size: usize,
-    shuts: &mut [u8; SHUTS],
-)
-    requires { (size ≤ 256) × (from + size ≤ length layers.now) }
-    ensures { CrossingsLaid floor.now layers.now from size shuts.old shuts.new }
+fn lay_crossings(floor: &[u8; SHUTS], digits: &[u8], shuts: &mut [u8; SHUTS])
+    requires { length digits.now ≤ 256 }
+    ensures { CrossingsLaid floor.now digits.now 0 (length digits.now) shuts.old shuts.new }
 {
-    let mut m = 0;
-    while m < hall::MOVE_COUNT {
-        shut_crossings(floor, layers, from, size, m, shuts);
-        m += 1;
+    for m in 0..hall::MOVE_COUNT {
+        shut_crossings(floor, digits, m, shuts);
     }
 }
 
 // The shut moves of a step, of the digits in the layers from an entry on. Where no crossing is barred on the whole way they are the
-// floor's at every step, and nothing is laid anew.
+// floor's at every step, and nothing is laid anew. Layers, entry and size stand as they are promised; within, the digits are a slice.
+#[tactic(auto, unfolding(crate::specs::Post::LaidAt))]
 pub fn lay_shuts(
     crossing: bool,
     floor: &[u8; SHUTS],
@@ -133,6 +108,6 @@ pub fn lay_shuts(
     ensures { LaidAt crossing floor.now layers.now from size shuts.old shuts.new }
 {
     if crossing {
-        lay_crossings(floor, layers, from, size, shuts);
+        lay_crossings(floor, &layers[from..from + size], shuts);
     }
 }

@@ -3,8 +3,6 @@
 // are followed by an empty line. The comparison stops at the first book whose lines differ.
 #![tactic(auto)]
 
-ghost use Rattle.std.specs.Prelude.{◌≤◌, ◌<◌};
-
 use std::fs::File;
 use std::io;
 
@@ -15,61 +13,28 @@ const BOOK_MOST: usize = 300;
 
 const NEWLINE: u8 = 10;
 
-const LENGTH_BYTES: usize = 2;
-
 // More than there are.
-const TURNS: usize = 1000;
+const MOST_BOOKS: usize = 1000;
 
-// How far the comparison has come in both files.
-#[derive(Clone, Copy)]
-struct Walk {
-    book: usize,
-    line: usize,
-    compared: usize,
-    differ: usize,
-    is_over: bool,
+// The first so many bytes, or those that there are, and the rest.
+fn divided(bytes: &[u8], size: usize) -> (&[u8], &[u8]) {
+    bytes.split_at(size.min(bytes.len()))
 }
 
-fn forward(at: usize, step: usize, most: usize) -> usize
-    ensures { result ≤ most }
-{
-    if most <= at {
-        return most;
+// The first book, and what stands behind it.
+fn next_book(books: &[u8]) -> Option<(&[u8], &[u8])> {
+    match books {
+        [] => None,
+        [_] => Some((&[], &[])),
+        [low, high, rest @ ..] => {
+            let size = u16::from_le_bytes([*low, *high]);
+            Some(divided(rest, usize::from(size)))
+        }
     }
-    if most - at <= step {
-        return most;
-    }
-    at + step
 }
 
-fn byte_at(bytes: &[u8], at: usize) -> usize
-    ensures { result < 256 }
-{
-    if at < bytes.len() {
-        return bytes[at] as usize;
-    }
-    0
-}
-
-fn length_at(books: &[u8], at: usize) -> usize {
-    byte_at(books, at) + 256 * byte_at(books, forward(at, 1, books.len()))
-}
-
-// As many bytes as asked, or those that there are.
-fn part(bytes: &[u8], at: usize, size: usize) -> &[u8] {
-    if bytes.len() <= at {
-        return &bytes[0..0];
-    }
-    let rest = bytes.len() - at;
-    if rest < size {
-        return &bytes[at..];
-    }
-    let end = at + size;
-    &bytes[at..end]
-}
-
-// The length of the lines of a book, with the empty line, where they are those that stand first in `expected`; else 0.
-fn compare(book: &[u8], expected: &[u8]) -> usize {
+// What is expected behind the lines of a book and the empty line, where it begins with them.
+fn after_lines<'a>(book: &[u8], expected: &'a [u8]) -> Option<&'a [u8]> {
     let mut columns = [0u16; 1024];
     let mut plans = [0u8; 65536];
     let mut layers = [0u8; 32768];
@@ -84,65 +49,46 @@ fn compare(book: &[u8], expected: &[u8]) -> usize {
         &mut output,
         &mut out,
     );
-    let ended = text::put_byte(&mut out, end, NEWLINE);
-    let given = part(&out, 0, ended);
-    if given == part(expected, 0, ended) {
-        return ended;
-    }
-    0
+    let mut page = text::Page::new(&mut out, end);
+    page.byte(NEWLINE);
+    let ended = page.end();
+    expected.strip_prefix(out.get(..ended)?)
 }
 
-// One book more.
-fn next(books: &[u8], expected: &[u8], walk: Walk) -> Walk {
-    if walk.is_over {
-        return walk;
-    }
-    let at = walk.book;
-    let line = walk.line;
-    if books.len() <= at {
-        return Walk {
-            book: at,
-            line,
-            compared: walk.compared,
-            differ: walk.differ,
-            is_over: true,
-        };
-    }
-    let start = forward(at, LENGTH_BYTES, books.len());
-    let size = length_at(books, at);
-    let book = part(part(books, start, size), 0, BOOK_MOST);
-    let lines = compare(book, part(expected, line, expected.len()));
-    let compared = forward(walk.compared, 1, TURNS);
-    if lines == 0 {
-        return Walk {
-            book: at,
-            line,
-            compared,
-            differ: 1,
-            is_over: true,
-        };
-    }
-    Walk {
-        book: forward(start, size, books.len()),
-        line: forward(line, lines, expected.len()),
-        compared,
-        differ: 0,
-        is_over: false,
-    }
+// How many books were compared and whether the last differs, and how many bytes of lines are left.
+struct Outcome {
+    compared: usize,
+    differ: bool,
+    left: usize,
 }
 
-fn compare_all(books: &[u8], expected: &[u8]) -> Walk {
-    let mut walk = Walk {
-        book: 0,
-        line: 0,
-        compared: 0,
-        differ: 0,
-        is_over: false,
-    };
-    for _ in 0..TURNS {
-        walk = next(books, expected, walk);
+fn compare_all(books: &[u8], expected: &[u8]) -> Outcome {
+    let mut books = books;
+    let mut expected = expected;
+    for compared in 0..MOST_BOOKS {
+        let Some((book, books_left)) = next_book(books) else {
+            return Outcome {
+                compared,
+                differ: false,
+                left: expected.len(),
+            };
+        };
+        let (read, _unread) = divided(book, BOOK_MOST);
+        let Some(expected_left) = after_lines(read, expected) else {
+            return Outcome {
+                compared: compared + 1,
+                differ: true,
+                left: expected.len(),
+            };
+        };
+        books = books_left;
+        expected = expected_left;
     }
-    walk
+    Outcome {
+        compared: MOST_BOOKS,
+        differ: false,
+        left: expected.len(),
+    }
 }
 
 fn main(rt: HostRuntime) -> io::Result<()> {
@@ -150,9 +96,11 @@ fn main(rt: HostRuntime) -> io::Result<()> {
     let books_size = reading::read_full(&mut File::open(&rt, "books")?, &mut books)?;
     let mut expected = [0u8; 65536];
     let expected_size = reading::read_full(&mut File::open(&rt, "expected")?, &mut expected)?;
-    let walk = compare_all(&books[..books_size], &expected[..expected_size]);
-    let compared = walk.compared;
-    let differ = walk.differ;
-    let left = expected_size - forward(0, walk.line, expected_size);
+    let Outcome {
+        compared,
+        differ,
+        left,
+    } = compare_all(&books[..books_size], &expected[..expected_size]);
+    let differ = u8::from(differ);
     println!(rt; "{compared} books, {differ} differ, {left} bytes of lines left")
 }

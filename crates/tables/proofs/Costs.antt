@@ -10,8 +10,10 @@ use native.Mathlib.Nat.{suc-mul}
 use native.Mathlib.Numerals.{add-one}
 use borrow.Author.Tests.{eq-eqb, ne_eqb}
 use lib.Dec.{eqb}
+use Rattle.std.specs.List.{All}
+use Rattle.std.proofs.lemmas.List.Elements.{All-head, All-tail}
 use lib.ListN.{length, get_or, take, drop, length-take}
-use lib.Seq.{take-suc, take-length, take-add, take_all, drop-drop, length-take-le}
+use lib.Seq.{take-add, take_all, drop-drop}
 use Rattle.lists.specs.Lists.{range, sum_to, each}
 use Rattle.lists.proofs.Ranges.{get_d_mapped}
 use Rattle.lists.proofs.Sums.{sum_same, sum_at_most}
@@ -28,44 +30,26 @@ unfolding step_cost
 step_more true c = refl
 step_more false c = refl
 
-last_on_goal : (goal v : ℕ) (r : List ℕ) → v ≡ goal → cost goal (r ++ v ∷ []) ≡ cost goal r
+-- all of it on the goal
+pub cost_stays : (goal : ℕ) (r : List ℕ) → All (λ v. v ≡ goal) r → 0 ≡ cost goal r
 unfolding cost step_cost
-last_on_goal goal v [] e = rw (eq-eqb v goal e) refl
-last_on_goal goal v (u ∷ r) e = ap (step_cost (eqb u goal)) (last_on_goal goal v r e)
+cost_stays goal [] all = refl
+cost_stays goal (v ∷ r) all = rw (eq-eqb v goal (All-head (λ x. x ≡ goal) v r all), ← cost_stays goal r (All-tail (λ x. x ≡ goal) v r all)) refl
 
-last_elsewhere : (goal v : ℕ) (r : List ℕ) → (v ≡ goal → ⊥) → cost goal (r ++ v ∷ []) ≡ suc (length r)
+-- last elsewhere at step i
+cost_past : (goal : ℕ) (r : List ℕ) (i : ℕ) → i < length r → (get_or r i 0 ≡ goal → ⊥) → All (λ v. v ≡ goal) (drop (suc i) r) → suc i ≡ cost goal r
 unfolding cost step_cost
-last_elsewhere goal v [] n = rw (ne_eqb v goal n) refl
-last_elsewhere goal v (u ∷ r) n = ap (step_cost (eqb u goal)) (last_elsewhere goal v r n) ∙ step_more (eqb u goal) (length r)
+cost_past goal [] i l n all = absurd (omega arith)
+cost_past goal (v ∷ r) zero l n all = rw (ne_eqb v goal n, ← cost_stays goal r all) refl
+cost_past goal (v ∷ r) (suc i) l n all = rw (← cost_past goal r i (omega arith) n all) (sym (step_more (eqb v goal) i))
+
+pub cost_last : (goal : ℕ) (r : List ℕ) (i : ℕ) → i < length r → (get_or r i 0 ≡ goal → ⊥) → All (λ v. v ≡ goal) (drop (i + 1) r) → i + 1 ≡ cost goal r
+cost_last goal r i l n all = rw add-one (cost_past goal r i l n (rw add-one at all))
 
 cost_at_most : (goal : ℕ) (r : List ℕ) → cost goal r ≤ length r
 unfolding cost
 cost_at_most goal [] = omega arith
 cost_at_most goal (v ∷ r) = omega (arith, step_most (eqb v goal) (cost goal r), cost_at_most goal r)
-
-module _ (goal : ℕ) (route : List ℕ) where
-  pub cost_whole : cost goal route ≡ cost goal (take (length route) route)
-  cost_whole = ap (cost goal) (sym (take-length route))
-
-  pub cost_none : (end : ℕ) → end ≤ 0 → cost goal route ≡ cost goal (take end route) → end ≡ cost goal route
-  unfolding cost
-  cost_none zero l e = sym e
-  cost_none (suc n) l e = absurd (omega arith)
-
-  module _ (end : ℕ) (some : 0 < end) (inside : end ≤ length route) (so_far : cost goal route ≡ cost goal (take end route)) where
-    front : take end route ≡ take (end - 1) route ++ get_or route (end - 1) 0 ∷ []
-    front =
-        let e : end ≡ suc (end - 1) = omega arith in
-        ap (λ (n : ℕ). take n route) e ∙ take-suc route (end - 1) 0 (omega arith)
-
-    pub cost_shorter : get_or route (end - 1) 0 ≡ goal → cost goal route ≡ cost goal (take (end - 1) route)
-    cost_shorter e = so_far ∙ ap (cost goal) front ∙ last_on_goal goal (get_or route (end - 1) 0) (take (end - 1) route) e
-
-    pub cost_here : (get_or route (end - 1) 0 ≡ goal → ⊥) → end ≡ cost goal route
-    cost_here n =
-        let long : length (take (end - 1) route) ≡ end - 1 = length-take-le (end - 1) route (omega arith) in
-        let c : cost goal route ≡ suc (length (take (end - 1) route)) = so_far ∙ ap (cost goal) front ∙ last_elsewhere goal (get_or route (end - 1) 0) (take (end - 1) route) n in
-        omega arith
 
 -- ---- the sum of a stretch
 

@@ -6,6 +6,7 @@ use native.Mathlib.Omega.{arith}
 use mathlib.Core.Path.{◌≡◌, refl, ap, ◌∙◌}
 use mathlib.Core.List.{List, [], ◌∷◌, ◌++◌, append-nil}
 use mathlib.Core.Option.{some}
+use Rattle.std.specs.Prelude.{None, Some}
 use lib.ListN.{length, set, length-set}
 use lib.Seq.{get_or-set_same, get_or-set_other}
 use Rattle.lists.specs.Lists.{range, sum_to, only, each, Every}
@@ -19,7 +20,6 @@ use Rattle.search.proofs.Taken.{split_taken}
 use Rattle.tree.specs.Tree.{Node, node_sum, node_clear, kids}
 use Rattle.tables.specs.State.{stretch_at, node_at, is_open_at, live, Sound}
 use Rattle.tables.specs.Post.{LeastAt, LeastFact}
-use Rattle.tables.specs.declared.Least.TheVariants.{Nothing, At}
 use Rattle.records.proofs.Chain.{chain_same}
 use Rattle.tables.proofs.Costs.{total_in}
 use Rattle.tables.proofs.Records.{other_node, earlier_column}
@@ -52,7 +52,7 @@ module _ (job : Job) (capacity : ℕ) (columns plans : List ℕ) where
   unfolding live each range
   live_more n = each_split made n 0 ∙ ap (λ (l : List Node). live job capacity columns plans n ++ l) (append-nil (made n))
 
-  pub live_none : (n : ℕ) → LeastFact capacity columns n Nothing → live job capacity columns plans n ≡ []
+  pub live_none : (n : ℕ) → LeastFact capacity columns n None → live job capacity columns plans n ≡ []
   unfolding live LeastFact only
   live_none n h = each_none made 0 n (λ y l k. rw (h y (omega arith)) refl)
 
@@ -150,6 +150,6 @@ module _ (job : Job) (capacity : ℕ) (columns plans : List ℕ) where
         rw (live_split m s, left_split m s)
         (split_taken (node_sum job) (node_clear job) (kids job) (each made (range 0 x)) node (each made (range (suc x) m)) above_before (least_after m s))
 
-  pub live_taken : (n : ℕ) → Sound job capacity columns plans n → (x : ℕ) → LeastFact capacity columns n (At x) → take_least (node_sum job) (node_clear job) (kids job) (live job capacity columns plans n) ≡ some (record { node = node_at job capacity columns plans x; rest = live job capacity (set columns (7 * capacity + x) 0) plans n })
+  pub live_taken : (n : ℕ) → Sound job capacity columns plans n → (x : ℕ) → LeastFact capacity columns n (Some x) → take_least (node_sum job) (node_clear job) (kids job) (live job capacity columns plans n) ≡ some (record { node = node_at job capacity columns plans x; rest = live job capacity (set columns (7 * capacity + x) 0) plans n })
   unfolding LeastFact
   live_taken n sound x least = taken_at n sound x least (n - suc x) (omega (arith, least.inside))

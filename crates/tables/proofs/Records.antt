@@ -28,9 +28,6 @@ earlier_column capacity c d x hx h = digits_lt h hx
 -- ---- a record filled, one column more
 
 module _ (capacity : ℕ) (before : List ℕ) (x : ℕ) (values : List ℕ) where
-  pub entered_none : Entered capacity before x values 0 before
-  entered_none = record { here = λ c l. absurd (omega arith); others = λ c y l ne. refl; long = refl; tail = refl }
-
   pub entered_more : (n : ℕ) (after : List ℕ) → n < 8 → x < capacity → 8 * capacity ≤ length before → Entered capacity before x values n after → Entered capacity before x values (n + 1) (set after (n * capacity + x) (get_or values n 0))
   entered_more n after small inside room f =
       let place : n * capacity + x < 8 * capacity = earlier_column capacity n 8 x inside small in
@@ -43,9 +40,6 @@ module _ (capacity : ℕ) (before : List ℕ) (x : ℕ) (values : List ℕ) wher
         long = length-set after (n * capacity + x) (get_or values n 0) ∙ f.long;
         tail = drop-set-lt (8 * capacity) after (n * capacity + x) (get_or values n 0) place ∙ f.tail;
       }
-
-  pub entered_all : (n : ℕ) (after : List ℕ) → n ≤ 8 → 8 ≤ n → Entered capacity before x values n after → Entered capacity before x values 8 after
-  entered_all n after l k f = let e : n ≡ 8 = omega arith in subst (λ (m : ℕ). Entered capacity before x values m after) e f
 
 -- ---- a bar in numbers
 

@@ -5,6 +5,7 @@ use native.Mathlib.Decide.{ℕ_discrete, dec_lt, dec_le}
 use native.Mathlib.Omega.{arith}
 use mathlib.Core.Path.{◌≡◌, refl, sym, ap, ◌∙◌}
 use mathlib.Core.List.{List}
+use Rattle.std.specs.Prelude.{Option, Some, None}
 use lib.ListN.{get_or, drop}
 use lib.Seq.{get_or-drop}
 use Rattle.lists.proofs.Parts.{same_entries}
@@ -12,8 +13,6 @@ use Rattle.lists.proofs.Tests.{not_both}
 use Rattle.routes.specs.declared.Bar.{Bar}
 use Rattle.records.specs.Columns.{entry}
 use Rattle.tables.specs.Post.{LeastAt, LeastFact, Recorded}
-use Rattle.tables.specs.declared.Least.{Least}
-use Rattle.tables.specs.declared.Least.TheVariants.{Nothing, At}
 
 -- ---- the open node of least sum, then of least number
 
@@ -26,12 +25,12 @@ module _ (capacity : ℕ) (columns : List ℕ) (n : ℕ) where
       go (no m) (yes k) = absurd (omega (arith, p.first y k q.opened, q.least x p.inside p.opened))
       go (no m) (no k) = omega (arith, m, k)
 
-  pub least_open_settled : (r r' : Least) → LeastFact capacity columns n r → LeastFact capacity columns n r' → r ≡ r'
+  pub least_open_settled : (r r' : Option ℕ) → LeastFact capacity columns n r → LeastFact capacity columns n r' → r ≡ r'
   unfolding LeastFact
-  least_open_settled Nothing Nothing p q = refl
-  least_open_settled Nothing (At y) p q = absurd (not_both q.opened (p y q.inside))
-  least_open_settled (At x) Nothing p q = absurd (not_both p.opened (q x p.inside))
-  least_open_settled (At x) (At y) p q = ap At (one_least x y p q)
+  least_open_settled None None p q = refl
+  least_open_settled None (Some y) p q = absurd (not_both q.opened (p y q.inside))
+  least_open_settled (Some x) None p q = absurd (not_both p.opened (q x p.inside))
+  least_open_settled (Some x) (Some y) p q = ap Some (one_least x y p q)
 
 -- ---- a record
 

@@ -4,6 +4,7 @@ use Prim.Native.Nat.{ℕ, ◌+◌, ◌≤◌, ◌<◌}
 use mathlib.Core.Path.{◌≡◌, ap, subst}
 use mathlib.Core.Bool.{true, false, not}
 use mathlib.Core.List.{List}
+use Rattle.std.specs.Prelude.{Option, Some, None}
 use native.Mathlib.Omega.{arith}
 use borrow.Author.Count.{below_more}
 use borrow.Author.Tests.{eq-eqb, ne_eqb}
@@ -11,8 +12,6 @@ use Rattle.lists.proofs.Tests.{not_both}
 use Rattle.records.specs.Columns.{entry, sum_at}
 use Rattle.tables.specs.State.{is_open_at}
 use Rattle.tables.specs.Post.{LeastFact}
-use Rattle.tables.specs.declared.Least.{Least}
-use Rattle.tables.specs.declared.Least.TheVariants.{Nothing, At}
 
 module _ (capacity : ℕ) (columns : List ℕ) where
   pub is_open : (x : ℕ) → (entry capacity columns 7 x ≡ 0 → ⊥) → is_open_at capacity columns x ≡ true
@@ -24,10 +23,10 @@ module _ (capacity : ℕ) (columns : List ℕ) where
   is_closed x h = ap not (eq-eqb (entry capacity columns 7 x) 0 h)
 
   -- the node n is closed
-  pub keep_best : (n : ℕ) (best : Least) → entry capacity columns 7 n ≡ 0 → LeastFact capacity columns n best → LeastFact capacity columns (n + 1) best
+  pub keep_best : (n : ℕ) (best : Option ℕ) → entry capacity columns 7 n ≡ 0 → LeastFact capacity columns n best → LeastFact capacity columns (n + 1) best
   unfolding LeastFact
-  keep_best n Nothing z h = below_more (λ y. is_open_at capacity columns y ≡ false) n h (is_closed n z)
-  keep_best n (At x) z h =
+  keep_best n None z h = below_more (λ y. is_open_at capacity columns y ≡ false) n h (is_closed n z)
+  keep_best n (Some x) z h =
       record {
         inside = omega (arith, h.inside);
         opened = h.opened;
@@ -36,7 +35,7 @@ module _ (capacity : ℕ) (columns : List ℕ) where
       }
 
   -- the node n is the only open one
-  first_taken : (n : ℕ) → (entry capacity columns 7 n ≡ 0 → ⊥) → LeastFact capacity columns n Nothing → LeastFact capacity columns (n + 1) (At n)
+  first_taken : (n : ℕ) → (entry capacity columns 7 n ≡ 0 → ⊥) → LeastFact capacity columns n None → LeastFact capacity columns (n + 1) (Some n)
   unfolding LeastFact
   first_taken n z h =
       record {
@@ -46,11 +45,11 @@ module _ (capacity : ℕ) (columns : List ℕ) where
         first = λ y l o. absurd (not_both o (h y l));
       }
 
-  pub take_only : (n : ℕ) (best : Least) → best ≡ Nothing → (entry capacity columns 7 n ≡ 0 → ⊥) → LeastFact capacity columns n best → LeastFact capacity columns (n + 1) (At n)
+  pub take_only : (n : ℕ) (best : Option ℕ) → best ≡ None → (entry capacity columns 7 n ≡ 0 → ⊥) → LeastFact capacity columns n best → LeastFact capacity columns (n + 1) (Some n)
   take_only n best e z h = first_taken n z (subst (LeastFact capacity columns n) e h)
 
   -- the node n has a smaller sum
-  pub take_later : (n x : ℕ) → (entry capacity columns 7 n ≡ 0 → ⊥) → sum_at capacity columns n < sum_at capacity columns x → LeastFact capacity columns n (At x) → LeastFact capacity columns (n + 1) (At n)
+  pub take_later : (n x : ℕ) → (entry capacity columns 7 n ≡ 0 → ⊥) → sum_at capacity columns n < sum_at capacity columns x → LeastFact capacity columns n (Some x) → LeastFact capacity columns (n + 1) (Some n)
   unfolding LeastFact
   take_later n x z l h =
       record {
@@ -61,7 +60,7 @@ module _ (capacity : ℕ) (columns : List ℕ) where
       }
 
   -- the node n has no smaller sum
-  pub keep_earlier : (n x : ℕ) → sum_at capacity columns x ≤ sum_at capacity columns n → LeastFact capacity columns n (At x) → LeastFact capacity columns (n + 1) (At x)
+  pub keep_earlier : (n x : ℕ) → sum_at capacity columns x ≤ sum_at capacity columns n → LeastFact capacity columns n (Some x) → LeastFact capacity columns (n + 1) (Some x)
   unfolding LeastFact
   keep_earlier n x l h =
       record {
@@ -71,16 +70,13 @@ module _ (capacity : ℕ) (columns : List ℕ) where
         first = h.first;
       }
 
-  pub among_none : LeastFact capacity columns 0 Nothing
+  pub among_none : LeastFact capacity columns 0 None
   unfolding LeastFact
   among_none y l = absurd (omega arith)
 
-  pub among_all : (n made : ℕ) (best : Least) → n ≤ made → made ≤ n → LeastFact capacity columns n best → LeastFact capacity columns made best
-  among_all n made best l k h = let e : n ≡ made = omega arith in subst (λ (m : ℕ). LeastFact capacity columns m best) e h
-
-  pub least_of_lem : (n : ℕ) (best : Least) (x : ℕ) → best ≡ At x → LeastFact capacity columns n best → LeastFact capacity columns n (At x)
+  pub least_of_lem : (n : ℕ) (best : Option ℕ) (x : ℕ) → best ≡ Some x → LeastFact capacity columns n best → LeastFact capacity columns n (Some x)
   least_of_lem n best x e h = subst (LeastFact capacity columns n) e h
 
-  pub taken_inside : (n x : ℕ) → LeastFact capacity columns n (At x) → x < n
+  pub taken_inside : (n x : ℕ) → LeastFact capacity columns n (Some x) → x < n
   unfolding LeastFact
   taken_inside n x h = h.inside

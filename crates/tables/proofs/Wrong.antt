@@ -5,6 +5,7 @@ use native.Mathlib.Omega.{arith}
 use mathlib.Core.Path.{◌≡◌, refl, sym, ap}
 use mathlib.Core.Bool.{true≢false}
 use mathlib.Core.List.{List, [], ◌∷◌}
+use Rattle.std.specs.Prelude.{Some}
 use lib.ListN.{get_or, set}
 use Rattle.lists.specs.Lists.{sum_to}
 use Rattle.routes.specs.Route.{step_cost, cost, route_in}
@@ -12,7 +13,6 @@ use Rattle.routes.specs.declared.Bar.{Bar}
 use Rattle.routes.specs.declared.Bar.TheVariants.{Stay}
 use Rattle.tables.specs.State.{is_open_at}
 use Rattle.tables.specs.Post.{LeastFact, code_of, Recorded}
-use Rattle.tables.specs.declared.Least.TheVariants.{At}
 use Rattle.tables.specs.declared.Code.{Code}
 
 -- columns for two nodes, both made: node 0 of sum 3 is closed, node 1 of sum 5 is open and bars carrier 1 from cell 4 at steps 1 to 2
@@ -29,12 +29,12 @@ stay = Stay 4 1 2
 -- ---- least_open
 
 -- a closed node taken
-pub closed_taken : LeastFact 2 two 2 (At 0) → ⊥
+pub closed_taken : LeastFact 2 two 2 (Some 0) → ⊥
 unfolding LeastFact is_open_at
 closed_taken f = true≢false (sym f.opened)
 
 -- two open nodes of sum 5: the one of the greater number
-pub later_of_equal_sums : LeastFact 2 (0 ∷ 0 ∷ 0 ∷ 0 ∷ 0 ∷ 0 ∷ 0 ∷ 0 ∷ 0 ∷ 0 ∷ 0 ∷ 0 ∷ 5 ∷ 5 ∷ 1 ∷ 1 ∷ []) 2 (At 1) → ⊥
+pub later_of_equal_sums : LeastFact 2 (0 ∷ 0 ∷ 0 ∷ 0 ∷ 0 ∷ 0 ∷ 0 ∷ 0 ∷ 0 ∷ 0 ∷ 0 ∷ 0 ∷ 5 ∷ 5 ∷ 1 ∷ 1 ∷ []) 2 (Some 1) → ⊥
 unfolding LeastFact is_open_at
 later_of_equal_sums f = let z : 5 < 5 = f.first 0 (omega arith) refl in omega arith
 

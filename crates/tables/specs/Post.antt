@@ -1,11 +1,9 @@
 -- What the leaves over the lent tables ask and promise.
-use Rattle.std.specs.Prelude.{ℕ, ◌*◌, ◌≤◌, ◌<◌, ◌≡◌, true, false, List, length, get_or, drop}
+use Rattle.std.specs.Prelude.{ℕ, ◌*◌, ◌≤◌, ◌<◌, ◌≡◌, true, false, Option, Some, None, List, length, get_or, drop}
 use Rattle.routes.specs.declared.Bar.{Bar}
 use Rattle.routes.specs.declared.Bar.TheVariants.{Free, Stay, Cross}
 use Rattle.records.specs.Columns.{entry, parent_at, sum_at, bar_at}
 use Rattle.tables.specs.State.{is_open_at}
-use Rattle.tables.specs.declared.Least.{Least}
-use Rattle.tables.specs.declared.Least.TheVariants.{Nothing, At}
 use Rattle.tables.specs.declared.Code.{Code}
 
 -- the columns have room for node x
@@ -21,9 +19,9 @@ pub record LeastAt (capacity : ℕ) (columns : List ℕ) (n x : ℕ) : Type 0 wh
   pub least : (y : ℕ) → y < n → is_open_at capacity columns y ≡ true → sum_at capacity columns x ≤ sum_at capacity columns y
   pub first : (y : ℕ) → y < x → is_open_at capacity columns y ≡ true → sum_at capacity columns x < sum_at capacity columns y
 
-unfoldable pub LeastFact : ℕ → List ℕ → ℕ → Least → Type 0
-LeastFact capacity columns n Nothing = (y : ℕ) → y < n → is_open_at capacity columns y ≡ false
-LeastFact capacity columns n (At x) = LeastAt capacity columns n x
+unfoldable pub LeastFact : ℕ → List ℕ → ℕ → Option ℕ → Type 0
+LeastFact capacity columns n None = (y : ℕ) → y < n → is_open_at capacity columns y ≡ false
+LeastFact capacity columns n (Some x) = LeastAt capacity columns n x
 
 -- the kind of a bar and its numbers: no bar is 0, a stay 1, a crossing 2
 abbrev pub code_of : Bar → Code

@@ -1,7 +1,8 @@
 // The planner's leaves over the lent tables: the open node of least sum, a record written, the cost and the sum of routes.
 #![tactic(auto)]
 
-ghost use Rattle.std.specs.Prelude.{◌+◌, ◌*◌, ◌≤◌, ◌<◌, ◌≡◌, length, get_or, set};
+ghost use Rattle.std.specs.Prelude.{◌+◌, ◌*◌, ◌≤◌, ◌<◌, ◌≡◌, ◌≢◌, IfNone, IfSome, drop, length, get_or, set};
+ghost use Rattle.std.specs.List.{All};
 ghost use Rattle.lists.specs.Lists.{sum_to};
 ghost use Rattle.routes.specs.Route.{cost, route_in};
 ghost use Rattle.tables.specs.Post.{Room, LeastFact, code_of, Fitting, Entered, Recorded};
@@ -13,19 +14,14 @@ use routes::Bar;
 // the node is open. Column after column, each with an entry for each of the N nodes.
 pub const COLUMNS: usize = 8;
 
+// The columns are lent memory of 16-bit numbers, laid out for the caller in C: so the mark that a node is open and the kinds of
+// bar are numbers in them, and a `Code` is a bar as it stands there.
 const IS_OPEN: u16 = 1;
 
 const IS_CLOSED: u16 = 0;
 
 // The kind of no bar; the others are those of `records`.
 const NO_BAR: usize = 0;
-
-// The open node of least sum, if there is one.
-#[derive(Clone, Copy)]
-pub enum Least {
-    Nothing,
-    At(usize),
-}
 
 // The kind of a bar and its three numbers, as a record has them.
 #[derive(Clone, Copy)]
@@ -37,7 +33,7 @@ pub struct Code {
 }
 
 // One node more: it is taken only if its sum is smaller, since its number is greater.
-fn better(columns: &[u16], capacity: usize, best: Least, node: usize) -> Least
+fn better(columns: &[u16], capacity: usize, best: Option<usize>, node: usize) -> Option<usize>
     requires room { Room capacity columns.now node }
     requires least { LeastFact capacity columns.now node best }
     ensures { LeastFact capacity columns.now (node + 1) result }
@@ -46,23 +42,20 @@ fn better(columns: &[u16], capacity: usize, best: Least, node: usize) -> Least
         return best;
     }
     match best {
-        Least::Nothing => Least::At(node),
-        Least::At(x) => {
-            if columns[records::SUM * capacity + node] < columns[records::SUM * capacity + x] {
-                Least::At(node)
-            } else {
-                Least::At(x)
-            }
+        Some(x)
+            if columns[records::SUM * capacity + x] <= columns[records::SUM * capacity + node] => {
+            best
         }
+        _ => Some(node),
     }
 }
 
 // Rule 4: 'the open node of least sum, then of least number', among the first `made`.
-pub fn least_open(columns: &[u16], capacity: usize, made: usize) -> Least
+pub fn least_open(columns: &[u16], capacity: usize, made: usize) -> Option<usize>
     requires { (made ≤ capacity) × (capacity ≤ 1024) × (8 * capacity ≤ length columns.now) }
     ensures { LeastFact capacity columns.now made result }
 {
-    let mut best = Least::Nothing;
+    let mut best = None;
     for node in 0..made {
         best = better(columns, capacity, best, node);
     }
@@ -78,28 +71,30 @@ pub fn close(columns: &mut [u16], capacity: usize, node: usize)
 }
 
 // A bar in numbers.
-pub fn code_of(bar: Bar) -> Code
-    ensures { result ≡ code_of bar }
-{
-    match bar {
-        Bar::Free => Code {
-            kind: NO_BAR,
-            first: 0,
-            second: 0,
-            third: 0,
-        },
-        Bar::Stay { cell, first, last } => Code {
-            kind: records::STAY,
-            first: cell,
-            second: first,
-            third: last,
-        },
-        Bar::Cross { from, to, step } => Code {
-            kind: records::CROSSING,
-            first: from,
-            second: to,
-            third: step,
-        },
+impl From<Bar> for Code {
+    ghost from_gives = { λ bar code. code ≡ code_of bar };
+
+    fn from(bar: Bar) -> Code {
+        match bar {
+            Bar::Free => Code {
+                kind: NO_BAR,
+                first: 0,
+                second: 0,
+                third: 0,
+            },
+            Bar::Stay { cell, first, last } => Code {
+                kind: records::STAY,
+                first: cell,
+                second: first,
+                third: last,
+            },
+            Bar::Cross { from, to, step } => Code {
+                kind: records::CROSSING,
+                first: from,
+                second: to,
+                third: step,
+            },
+        }
     }
 }
 
@@ -108,8 +103,8 @@ fn fill_record(columns: &mut [u16], capacity: usize, node: usize, values: [u16; 
     requires { Room capacity columns.old node }
     ensures { Entered capacity columns.old node values 8 columns.new }
 {
-    for column in 0..COLUMNS {
-        columns[column * capacity + node] = values[column];
+    for (column, value) in values.iter().enumerate() {
+        columns[column * capacity + node] = *value;
     }
 }
 
@@ -127,7 +122,7 @@ pub fn write_record(
     requires fitting { Fitting parent carrier bar sum }
     ensures { Recorded capacity columns.old node parent carrier bar sum columns.new }
 {
-    let code = code_of(bar);
+    let code = Code::from(bar);
     let values: [u16; 8] = [
         parent as u16,
         code.kind as u16,
@@ -141,18 +136,25 @@ pub fn write_record(
     fill_record(columns, capacity, node, values);
 }
 
+// The last step at which a route is not on its goal.
+fn last_elsewhere(route: &[u8], goal: u8) -> Option<usize>
+    ensures none { IfNone result (All (λ v. v ≡ goal) route.now) }
+    ensures some { IfSome result (λ i. i < length route.now) }
+    ensures other { IfSome result (λ i. get_or route.now i 0 ≢ goal) }
+    ensures rest { IfSome result (λ i. All (λ v. v ≡ goal) (drop (i + 1) route.now)) }
+{
+    route.iter().rposition(|cell| *cell != goal)
+}
+
 // 'Its cost is the least step from which it is on its goal at every step up to H.'
+#[tactic(auto, using(crate::proofs::Costs::cost_stays, crate::proofs::Costs::cost_last))]
 pub fn route_cost(route: &[u8], goal: u8) -> usize
     ensures { result ≡ cost goal route.now }
 {
-    let mut end = route.len();
-    while 0 < end {
-        if route[end - 1] != goal {
-            return end;
-        }
-        end -= 1;
+    match last_elsewhere(route, goal) {
+        Some(last) => last + 1,
+        None => 0,
     }
-    end
 }
 
 // 'Its sum is the total of the costs', of the routes in a stretch.
@@ -160,13 +162,11 @@ pub fn sum_of(stretch: &[u8], team: Team, h: usize) -> usize
     requires { (team.count ≤ 8) × (h ≤ 63) × (team.count * (h + 1) ≤ length stretch.now) }
     ensures { result ≡ sum_to team.count (λ i. cost (get_or team.goals i 0) (route_in h stretch.now i)) }
 {
-    let count = team.count;
     let size = h + 1;
     let mut total = 0;
-    for i in 0..count {
+    for i in 0..team.count {
         let start = i * size;
-        let end = start + size;
-        total += route_cost(&stretch[start..end], team.goals[i]);
+        total += route_cost(&stretch[start..start + size], team.goals[i]);
     }
     total
 }

@@ -1,4 +1,5 @@
--- Two results that the contract of `put_byte`, `put_word` or `put_number` allows are equal: the buffer and the next place.
+-- Two results that the contract of a method of `Page` allows are equal: the buffer and the next place. Of what `Writes` says this takes the
+-- second half.
 -- Assumes nothing.
 use Prim.Native.Nat.{ℕ}
 use mathlib.Core.List.{List}

@@ -9,8 +9,8 @@ use mathlib.Core.Bool.{true, false}
 use mathlib.Core.List.{List, [], ◌∷◌, ◌++◌}
 use mathlib.Core.Path.{◌≡◌, refl, sym, ap, ◌∙◌}
 use lib.Dec.{ltb}
-use lib.ListN.{length, set, take, drop, get_or, length-set}
-use lib.Seq.{take-suc, take_all, sets, sets-eq}
+use lib.ListN.{length, set, take, drop, length-set}
+use lib.Seq.{sets, sets-eq}
 use borrow.Author.Tests.{ltb-true, ltb-false, lt-ltb, le-ltb}
 use Rattle.text.specs.Text.{Page, page, put_byte, put, digits_within, digits}
 
@@ -19,36 +19,15 @@ unfolding put
 put_append p [] v = refl
 put_append p (b ∷ u) v = put_append (put_byte p b) u v
 
--- one more byte
-put_snoc : (p : Page) (u : List ℕ) (b : ℕ) → put p (u ++ (b ∷ [])) ≡ put_byte (put p u) b
+pub put_none : (p : Page) → put p [] ≡ p
 unfolding put
-put_snoc p u b = put_append p u (b ∷ [])
-
-pub put_one : (p : Page) (b : ℕ) → put p (b ∷ []) ≡ put_byte p b
-unfolding put
-put_one p b = refl
+put_none p = refl
 
 -- ---- one byte
 
 pub byte_inside : (xs : List ℕ) (at b : ℕ) → at < length xs → page (set xs at b) (at + 1) ≡ put_byte (page xs at) b
 unfolding put_byte
 byte_inside xs at b inside = rw (lt-ltb at (length xs) inside, put_byte)
-
-pub byte_past : (xs : List ℕ) (at b : ℕ) → length xs ≤ at → page xs at ≡ put_byte (page xs at) b
-unfolding put_byte
-byte_past xs at b past = rw (le-ltb at (length xs) past, put_byte)
-
--- ---- a word, byte by byte
-
-pub word_none : (p : Page) (w : List ℕ) → p ≡ put p (take 0 w)
-unfolding put
-word_none p w = refl
-
-pub word_more : (p q r : Page) (w : List ℕ) (i : ℕ) → i < length w → q ≡ put p (take i w) → r ≡ put_byte q (get_or w i 0) → r ≡ put p (take (i + 1) w)
-word_more p q r w i inside e f = rw (add-one, take-suc w i 0 inside, put_snoc) (f ∙ ap (λ (x : Page). put_byte x (get_or w i 0)) e)
-
-pub word_whole : (p q : Page) (w : List ℕ) (i : ℕ) → length w ≤ i → q ≡ put p (take i w) → q ≡ put p w
-word_whole p q w i past e = e ∙ ap (put p) (take_all i w past)
 
 -- ---- a number
 
@@ -82,12 +61,6 @@ pub digits_more : (n : ℕ) → 10 ≤ n → digits n ≡ digits (n / 10) ++ ((4
 unfolding digits
 digits_more n more =
     within_more n n more ∙ ap (λ (ds : List ℕ). ds ++ ((48 + n % 10) ∷ [])) (enough n (suc (n / 10)) (n / 10) (omega arith) (omega arith))
-
-pub number_one : (p q : Page) (n d : ℕ) → n < 10 → d ≡ 48 + n % 10 → q ≡ put_byte p d → q ≡ put p (digits n)
-number_one p q n d small is e = e ∙ ap (put_byte p) is ∙ sym (put_one p (48 + n % 10)) ∙ ap (put p) (sym (digits_one n small))
-
-pub number_more : (p q r : Page) (n d : ℕ) → 10 ≤ n → d ≡ 48 + n % 10 → q ≡ put p (digits (n / 10)) → r ≡ put_byte q d → r ≡ put p (digits n)
-number_more p q r n d more is e f = rw (digits_more n more, put_snoc, ← is, ← e) f
 
 -- ---- what a reader of the buffer may count on
 

@@ -1,4 +1,4 @@
--- Wrong answers of `put_byte`, `put_word` and `put_number`, each refuted at a small page: the contract with that answer is false, by
+-- Wrong answers of `Page::byte`, `Page::word` and `Page::number`, each refuted at a small page: the contract with that answer is false, by
 -- computation. Assumes nothing.
 use Prim.Native.Nat.{ℕ}
 use native.Mathlib.Omega.{arith}
@@ -7,7 +7,7 @@ use mathlib.Core.Path.{◌≡◌, ap}
 use lib.ListN.{get_or}
 use Rattle.text.specs.Text.{Page, page, put_byte, put, digits_within, digits}
 
--- ---- put_byte
+-- ---- byte
 
 -- a page of one byte has no room at 1
 pub full_page_told_longer : (given : List ℕ) → page given 2 ≡ put_byte (page (0 ∷ []) 1) 65 → ⊥
@@ -18,7 +18,7 @@ pub byte_written_one_place_early : (r : ℕ) → page (65 ∷ 0 ∷ []) r ≡ pu
 unfolding put_byte
 byte_written_one_place_early r e = let z : ◌≡◌ {A = ℕ} 65 0 = ap (λ (p : Page). get_or p.bytes 0 0) e in omega arith
 
--- ---- put_word: 'ab'
+-- ---- word: 'ab'
 
 pub word_written_backwards : (r : ℕ) → page (98 ∷ 97 ∷ []) r ≡ put (page (0 ∷ 0 ∷ []) 0) (97 ∷ 98 ∷ []) → ⊥
 unfolding put put_byte
@@ -29,7 +29,7 @@ pub cut_word_left_out_whole : page (0 ∷ []) 0 ≡ put (page (0 ∷ []) 0) (97 
 unfolding put put_byte
 cut_word_left_out_whole e = let z : ◌≡◌ {A = ℕ} 0 97 = ap (λ (p : Page). get_or p.bytes 0 0) e in omega arith
 
--- ---- put_number
+-- ---- number
 
 pub ten_printed_as_01 : (r : ℕ) → page (48 ∷ 49 ∷ []) r ≡ put (page (0 ∷ 0 ∷ []) 0) (digits 10) → ⊥
 unfolding put put_byte digits digits_within

@@ -2,12 +2,9 @@
 use mathlib.Core.Path.{◌≡◌, sym, ◌∙◌}
 use Rattle.job.specs.declared.Fault.{Fault}
 use Rattle.job.specs.declared.Told.{Told}
-use Rattle.planner.specs.Answer.{answer_told}
-use Rattle.planner.specs.declared.Answer.{Answer}
-use Rattle.routes.specs.Check.{route_told}
-use Rattle.routes.specs.declared.RouteVerdict.{RouteVerdict}
-use Rattle.clashes.specs.Check.{meeting_told}
-use Rattle.clashes.specs.declared.MeetingVerdict.{MeetingVerdict}
+use Rattle.planner.specs.Answer.{Answer, answer_told}
+use Rattle.routes.specs.Check.{RouteVerdict, route_told}
+use Rattle.clashes.specs.Check.{MeetingVerdict, meeting_told}
 
 pub answer_told_settled : (answer : Answer) (r s : Told) → r ≡ answer_told answer → s ≡ answer_told answer → r ≡ s
 answer_told_settled answer r s p q = p ∙ sym q

@@ -2,105 +2,59 @@
 #![tactic(auto)]
 
 ghost use Rattle.std.specs.Prelude.{◌≡◌};
-ghost use Rattle.job.specs.Told.{counted as counted_told, too_short, fault as fault_of, plan_too_short};
 ghost use Rattle.planner.specs.Answer.{answer_told};
 ghost use Rattle.routes.specs.Check.{route_told};
 ghost use Rattle.clashes.specs.Check.{clash_told, meeting_told};
 
-use clashes::{Clash, MeetingVerdict};
-use job::{Fault, Told};
-use planner::Answer;
-use routes::RouteVerdict;
+use clashes::Clash;
+use job::{CheckRefusal, Fault, Told};
+use planner::{Denial, Plan};
+use routes::Place;
 
-// A number with a sum and records.
-fn counted(number: usize, sum: usize, records: usize) -> Told
-    ensures { result ≡ counted_told number sum records }
-{
-    Told {
-        number,
-        sum,
-        records,
-        carrier: 0,
-        other: 0,
-        table: 0,
-        needed: 0,
-    }
-}
-
-// 7 with the first short table and the length it needed.
-fn too_short(table: usize, needed: usize) -> Told
-    ensures { result ≡ too_short table needed }
-{
-    Told {
-        number: 7,
-        sum: 0,
-        records: 0,
-        carrier: 0,
-        other: 0,
-        table,
-        needed,
-    }
-}
-
-// What the planner gives back.
-pub fn answer_told(answer: Answer) -> Told
+// What the planner gives back. A function, here and below, and no From: of a Result, which is std's, and Told, which is crate job's, no
+// other crate may write one.
+pub fn answer_told(answer: Result<Plan, Denial>) -> Told
     ensures { result ≡ answer_told answer }
 {
     match answer {
-        Answer::Plan { sum, records } => counted(0, sum, records),
-        Answer::Refused(verdict) => job::verdict_told(verdict),
-        Answer::Short { table, needed } => too_short(table, needed),
-        Answer::NoPlan { records } => counted(8, 0, records),
-        Answer::Full { records } => counted(9, 0, records),
-    }
-}
-
-// A check's number with a carrier and a step, or with two carriers, a step and a distance, 1 for a swap.
-fn fault(
-    number: usize,
-    carrier: usize,
-    other: usize,
-    step: usize,
-    distance: usize,
-    swap: usize,
-) -> Fault
-    ensures { result ≡ fault_of number carrier other step distance swap }
-{
-    Fault {
-        number,
-        carrier,
-        other,
-        step,
-        distance,
-        swap,
-        needed: 0,
-    }
-}
-
-// A check's 7 with the length that the plan needed.
-fn plan_too_short(needed: usize) -> Fault
-    ensures { result ≡ plan_too_short needed }
-{
-    Fault {
-        number: 7,
-        carrier: 0,
-        other: 0,
-        step: 0,
-        distance: 0,
-        swap: 0,
-        needed,
+        Ok(Plan { sum, records }) => Told {
+            sum,
+            records,
+            ..Told::default()
+        },
+        Err(Denial::Job(refusal)) => refusal.into(),
+        Err(Denial::Short { table, needed }) => Told {
+            number: 7,
+            table,
+            needed,
+            ..Told::default()
+        },
+        Err(Denial::NoPlan { records }) => Told {
+            number: 8,
+            records,
+            ..Told::default()
+        },
+        Err(Denial::Full { records }) => Told {
+            number: 9,
+            records,
+            ..Told::default()
+        },
     }
 }
 
 // What the route check gives back.
-pub fn route_told(verdict: RouteVerdict) -> Fault
+pub fn route_told(verdict: Result<Option<Place>, CheckRefusal>) -> Fault
     ensures { result ≡ route_told verdict }
 {
     match verdict {
-        RouteVerdict::Lawful => fault(0, 0, 0, 0, 0, 0),
-        RouteVerdict::Refused(refused) => job::refusal(job::verdict_told(refused)),
-        RouteVerdict::Short { needed } => plan_too_short(needed),
-        RouteVerdict::Wrong { carrier, step } => fault(21, carrier, 0, step, 0, 0),
+        Ok(None) => Fault::default(),
+        Ok(Some(Place { carrier, step })) => Fault {
+            number: 21,
+            carrier,
+            step,
+            ..Fault::default()
+        },
+        Err(refusal) => refusal.into(),
     }
 }
 
@@ -108,28 +62,41 @@ fn clash_told(clash: Clash) -> Fault
     ensures { result ≡ clash_told clash }
 {
     match clash {
-        Clash::Clear => fault(0, 0, 0, 0, 0, 0),
+        Clash::Clear => Fault::default(),
         Clash::Meeting {
             first,
             second,
             step,
             distance,
-        } => fault(22, first, second, step, distance, 0),
+        } => Fault {
+            number: 22,
+            carrier: first,
+            other: second,
+            step,
+            distance,
+            ..Fault::default()
+        },
         Clash::Swap {
             first,
             second,
             step,
-        } => fault(22, first, second, step, 0, 1),
+        } => Fault {
+            number: 22,
+            carrier: first,
+            other: second,
+            step,
+            swap: 1,
+            ..Fault::default()
+        },
     }
 }
 
 // What the meeting check gives back.
-pub fn meeting_told(verdict: MeetingVerdict) -> Fault
+pub fn meeting_told(verdict: Result<Clash, CheckRefusal>) -> Fault
     ensures { result ≡ meeting_told verdict }
 {
     match verdict {
-        MeetingVerdict::Refused(refused) => job::refusal(job::verdict_told(refused)),
-        MeetingVerdict::Short { needed } => plan_too_short(needed),
-        MeetingVerdict::Compared(clash) => clash_told(clash),
+        Ok(clash) => clash_told(clash),
+        Err(refusal) => refusal.into(),
     }
 }

@@ -1,5 +1,4 @@
 pub mod ReadLaws
-pub mod StayLaws
 pub mod StepLaws
 pub mod TurnLaws
 pub mod WriteLaws

@@ -17,14 +17,13 @@ wanted_by width height layers next v digits target m =
     keep (λ w. eqb (moves_by m (get_or layers (next + w) 0)) target) (unless (has_digit digits m) (landing width height (v / width) (v % width) m))
 
 module _ (width height h : ℕ) (layers : List ℕ) where
+  -- the cell at t + 1 that move m leads to from v at t, if it is wanted
+  abbrev pub wanted_on : ℕ → ℕ → ℕ → List ℕ
+  wanted_on t v = wanted_by width height layers ((t + 1) * (width * height)) v (get_or layers ((h + 1) * (width * height) + t * (width * height) + v) 0) (get_or layers (t * (width * height) + v) 0)
+
   -- the cell at t + 1 of the way from v at t: the first such cell, or v itself if there is none
   unfoldable pub stepped_to : ℕ → ℕ → ℕ
-  stepped_to t v =
-      get_or
-      (each
-      (wanted_by width height layers ((t + 1) * (width * height)) v (get_or layers ((h + 1) * (width * height) + t * (width * height) + v) 0) (get_or layers (t * (width * height) + v) 0))
-      (range 0 move_count))
-      0 v
+  stepped_to t v = get_or (each (wanted_on t v) (range 0 move_count)) 0 v
 
   -- the way from v at t, with n steps left
   unfoldable pub read_way : ℕ → ℕ → ℕ → List ℕ

@@ -8,9 +8,6 @@ use Rattle.layers.proofs.Soon.{fillable_again}
 use Rattle.layers.proofs.SeekLaws.{crossing_kept, sought_none, sought_cost}
 use Rattle.layers.proofs.seek_by.Goals as goal
 
-pub overflow_cast-end : goal.overflow_cast-end
-overflow_cast-end c = record { fits = omega (arith, (c.slice_known-3-1.given c.args.trip.start).fits) }
-
 pub returns-then-late-end : goal.returns-then-late-end
 returns-then-late-end c =
     let a = c.args in
@@ -18,9 +15,6 @@ returns-then-late-end c =
     let fill = c.fill_back in
     let ends = fill.new.layers in
     λ bytes bars floor marked rests. sought_none (lent_hall a.grid bytes) bars a.trip.start a.trip.goal a.trip.horizon a.late a.layers.now ends pre.0.late pre.0.within pre.2 pre.0.inside marked rests (fill.ensures.0 bytes floor) fill.ensures.1 (get_or ends a.trip.start 0) refl c.if-late-end.true
-
-pub overflow_cast-end-2 : goal.overflow_cast-end-2
-overflow_cast-end-2 c = record { fits = omega (arith, (c.slice_known-3-1.given c.args.trip.start).fits) }
 
 pub fill_back-requires-2 : goal.fill_back-requires-2
 fill_back-requires-2 c =

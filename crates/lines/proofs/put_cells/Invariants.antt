@@ -1,13 +1,8 @@
--- The loop's invariant: the cells passed are written. Assumes nothing.
-use Prim.Native.Nat.{◌-◌, ◌≤◌}
-use mathlib.Core.Path.{◌≡◌}
-use lib.ListN.{length, take}
-use Rattle.text.specs.Text.{page, put}
+-- The cells passed are written.
+use Rattle.std.proofs.Common.{take}
+use Rattle.text.specs.Lent.{Writes}
 use Rattle.lines.specs.Lines.{cells_text}
 use Rattle.lines.proofs.put_cells.Given as goal
 
-abbrev pub invariant-loop-i : goal.invariant-loop-i
-invariant-loop-i l = (l.i ≤ length l.cells) × (length l.out ≡ length l.initial.out) × (page l.out l.next ≡ put (page l.initial.out l.at) (cells_text (take l.i l.cells)))
-
-abbrev pub decreases-loop-i : goal.decreases-loop-i
-decreases-loop-i l = length l.cells - l.i
+abbrev pub invariant-loop-cell : goal.invariant-loop-cell
+invariant-loop-cell l = Writes l.initial.page l.page (cells_text (take l.cell-index l.cells))

@@ -1,16 +1,9 @@
 -- `marks::bound_above` meets its contract: the bars above a node go on at its parent, and where the parent's bar is for another carrier,
 -- as they go on above the parent, whose number is smaller. Assumes nothing.
-use native.Mathlib.Omega.{arith}
 use mathlib.Core.Path.{sym, ◌∙◌}
 use mathlib.Core.Logic.{inl, inr}
-use Rattle.records.proofs.Chain.{goes_up}
 use Rattle.marks.proofs.Above.{parent_bound, passed_bound}
 use Rattle.marks.proofs.+bound_above.Goals as goal
-
-pub entry_at-parent-requires : goal.entry_at-parent-requires
-entry_at-parent-requires t c =
-    let f = c.requires.0 in
-    (f.inside, f.small, f.room, omega arith)
 
 pub returns-then-parent-eq0 : goal.returns-then-parent-eq0
 returns-then-parent-eq0 t c =
@@ -19,28 +12,12 @@ returns-then-parent-eq0 t c =
     let parent = c.entry_at-parent in
     parent_bound a.capacity a.columns.now a.node a.carrier parent.result pre.0 pre.1 parent.ensures (inl c.if-parent-eq0.true)
 
-pub entry_at-requires : goal.entry_at-requires
-entry_at-requires t c =
-    let a = c.args in
-    let pre = c.requires in
-    let parent = c.entry_at-parent in
-    let f = (goes_up a.capacity a.columns.now a.node parent.result pre.0 (λ e. omega (arith, e, pre.1)) parent.ensures).1 in
-    (f.inside, f.small, f.room, omega arith)
-
 pub returns-then-entry_at-carrier : goal.returns-then-entry_at-carrier
 returns-then-entry_at-carrier t c =
     let a = c.args in
     let pre = c.requires in
     let parent = c.entry_at-parent in
     parent_bound a.capacity a.columns.now a.node a.carrier parent.result pre.0 pre.1 parent.ensures (inr (sym c.entry_at.ensures ∙ c.if-entry_at-carrier.true))
-
-pub bound_above-requires : goal.bound_above-requires
-bound_above-requires t c =
-    let a = c.args in
-    let pre = c.requires in
-    let parent = c.entry_at-parent in
-    let u = goes_up a.capacity a.columns.now a.node parent.result pre.0 (λ e. omega (arith, e, pre.1)) parent.ensures in
-    (omega (arith, u.0), (u.1, omega (arith, c.if-parent-eq0.false)))
 
 pub returns : goal.returns
 returns t c =

@@ -8,7 +8,7 @@ use Rattle.marks.proofs.More.{Left}
 use Rattle.marks.proofs.mark_up.Given as goal
 
 abbrev pub invariant-loop-at : goal.invariant-loop-at
-invariant-loop-at l = Falls l.capacity l.columns l.at × (length l.layers ≡ length l.initial.layers) × Left l.grid.width l.grid.height l.h (bars_for l.carrier (chain_of l.capacity l.columns l.node)) (bars_for l.carrier (chain_of l.capacity l.columns l.at)) l.initial.layers l.layers l.bearing
+invariant-loop-at l = Falls l.bound.capacity l.columns l.at × (length l.layers ≡ length l.initial.layers) × Left l.grid.width l.grid.height l.h (bars_for l.bound.carrier (chain_of l.bound.capacity l.columns l.bound.node)) (bars_for l.bound.carrier (chain_of l.bound.capacity l.columns l.at)) l.initial.layers l.layers l.bearing
 
 abbrev pub decreases-loop-at : goal.decreases-loop-at
 decreases-loop-at l = l.at

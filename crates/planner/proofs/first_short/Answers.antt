@@ -1,43 +1,37 @@
--- The four tests in their order; all products are small. Assumes nothing.
-use native.Mathlib.Omega.{arith}
-use Rattle.planner.proofs.Answers.{plans_small, short_columns, short_plans_lem, short_layers, short_output, all_long}
+-- The four tests in their order. Assumes nothing.
+use mathlib.Core.Path.{◌∙◌}
+use Rattle.std.proofs.lemmas.Result.{err_from_is_err_and}
+use Rattle.planner.proofs.Answers.{short_columns, short_plans_lem, short_layers, last_told}
 use Rattle.planner.proofs.first_short.Goals as goal
 
-pub returns-then-columns-needed : goal.returns-then-columns-needed
-returns-then-columns-needed c =
+pub returns-in_err-enough : goal.returns-in_err-enough
+returns-in_err-enough c =
     let a = c.args in
-    short_columns a.task (record { columns = a.columns.now; plans = a.plans.now; layers = a.layers.now; output = a.output.now }) c.if-columns-needed.true
+    let short = c.in_err-enough.ensures.short in
+    let told = err_from_is_err_and c.from_residual.result c.from_residual.ensures.1 in
+    rw (told.1, told.2) (short.1 ∙ short_columns a.task (record { columns = a.columns.now; plans = a.plans.now; layers = a.layers.now; output = a.output.now }) short.0)
 
-pub overflow_mul-needed-2 : goal.overflow_mul-needed-2
-overflow_mul-needed-2 c =
-    let a = c.args in
-    let pre = c.requires in
-    let e = c.stretch_of-size.ensures in
-    rw e (omega (arith, plans_small a.task.team.count a.task.horizon a.task.capacity pre.count_most pre.horizon_most pre.capacity_most))
-
-pub returns-then-plans-needed : goal.returns-then-plans-needed
-returns-then-plans-needed c =
+pub returns-in_err-enough-2 : goal.returns-in_err-enough-2
+returns-in_err-enough-2 c =
     let a = c.args in
     let stretch-of = c.stretch_of-size in
-    short_plans_lem a.task (record { columns = a.columns.now; plans = a.plans.now; layers = a.layers.now; output = a.output.now }) c.if-columns-needed.false stretch-of.result stretch-of.ensures c.if-plans-needed.true
+    let short = c.in_err-enough-2.ensures.short in
+    let told = err_from_is_err_and c.from_residual-in_err-enough-2.result c.from_residual-in_err-enough-2.ensures.1 in
+    rw (told.1, told.2) (short.1 ∙ short_plans_lem a.task (record { columns = a.columns.now; plans = a.plans.now; layers = a.layers.now; output = a.output.now }) c.in_ok-enough.ensures.ok stretch-of.result stretch-of.ensures short.0)
 
-pub returns-then-layers-needed : goal.returns-then-layers-needed
-returns-then-layers-needed c =
+pub returns-in_err-enough-3 : goal.returns-in_err-enough-3
+returns-in_err-enough-3 c =
     let a = c.args in
     let stretch-of = c.stretch_of-size in
-    let layers-of = c.layers_of-needed in
-    short_layers a.task (record { columns = a.columns.now; plans = a.plans.now; layers = a.layers.now; output = a.output.now }) c.if-columns-needed.false stretch-of.result stretch-of.ensures c.if-plans-needed.false layers-of.result layers-of.ensures c.if-layers-needed.true
-
-pub returns-then-output-size : goal.returns-then-output-size
-returns-then-output-size c =
-    let a = c.args in
-    let stretch-of = c.stretch_of-size in
-    let layers-of = c.layers_of-needed in
-    short_output a.task (record { columns = a.columns.now; plans = a.plans.now; layers = a.layers.now; output = a.output.now }) c.if-columns-needed.false stretch-of.result stretch-of.ensures c.if-plans-needed.false layers-of.result layers-of.ensures c.if-layers-needed.false c.if-output-size.true
+    let layers-of = c.layers_of in
+    let short = c.in_err-enough-3.ensures.short in
+    let told = err_from_is_err_and c.from_residual-in_err-enough-3.result c.from_residual-in_err-enough-3.ensures.1 in
+    rw (told.1, told.2) (short.1 ∙ short_layers a.task (record { columns = a.columns.now; plans = a.plans.now; layers = a.layers.now; output = a.output.now }) c.in_ok-enough.ensures.ok stretch-of.result stretch-of.ensures c.in_ok-enough-2.ensures.ok layers-of.result layers-of.ensures short.0)
 
 pub returns : goal.returns
 returns c =
     let a = c.args in
     let stretch-of = c.stretch_of-size in
-    let layers-of = c.layers_of-needed in
-    all_long a.task (record { columns = a.columns.now; plans = a.plans.now; layers = a.layers.now; output = a.output.now }) c.if-columns-needed.false stretch-of.result stretch-of.ensures c.if-plans-needed.false layers-of.result layers-of.ensures c.if-layers-needed.false c.if-output-size.false
+    let layers-of = c.layers_of in
+    let last = c.enough-4 in
+    last_told a.task (record { columns = a.columns.now; plans = a.plans.now; layers = a.layers.now; output = a.output.now }) c.in_ok-enough.ensures.ok stretch-of.result stretch-of.ensures c.in_ok-enough-2.ensures.ok layers-of.result layers-of.ensures c.in_ok-enough-3.ensures.ok last.result last.ensures.ok last.ensures.short

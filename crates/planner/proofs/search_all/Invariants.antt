@@ -10,10 +10,10 @@ use Rattle.planner.proofs.search_all.Given as goal
 
 abbrev pub invariant-loop-node : goal.invariant-loop-node
 invariant-loop-node l =
-    Ready l.task l.hall l.layers
-    × Sound (job_on l.task l.hall) l.task.capacity l.columns l.plans l.made
-    × Kept l.task l.hall l.initial.columns l.initial.plans l.initial.layers l.columns l.plans l.layers
-    × (tree_from (job_on l.task l.hall) l.task.capacity l.initial.columns l.initial.plans 1 ≡ tree_from (job_on l.task l.hall) l.task.capacity l.columns l.plans l.made)
+    Ready l.task l.layers
+    × Sound (job_on l.task) l.task.capacity l.columns l.plans l.made
+    × Kept l.task l.initial.columns l.initial.plans l.initial.layers l.columns l.plans l.layers
+    × (tree_from (job_on l.task) l.task.capacity l.initial.columns l.initial.plans 1 ≡ tree_from (job_on l.task) l.task.capacity l.columns l.plans l.made)
 
 abbrev pub decreases-loop-node : goal.decreases-loop-node
-decreases-loop-node l = (l.task.capacity - l.made) + length (live (job_on l.task l.hall) l.task.capacity l.columns l.plans l.made)
+decreases-loop-node l = (l.task.capacity - l.made) + length (live (job_on l.task) l.task.capacity l.columns l.plans l.made)

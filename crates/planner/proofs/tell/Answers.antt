@@ -27,12 +27,12 @@ copy_out-requires c =
     let stretch-of = c.stretch_of-size in
     (stretch_inside a.task a.plans.now c.in-Clear.node (end_placed a.task a.plans.now a.end c.in-Clear.node c.in-Clear.made c.in-Clear.is pre.placed) stretch-of.result stretch-of.ensures, omega (arith, stretch-of.ensures, pre.room))
 
-pub sum_at-requires : goal.sum_at-requires
-sum_at-requires c =
+pub sum_at-sum-requires : goal.sum_at-sum-requires
+sum_at-sum-requires c =
     let a = c.args in
     let pre = c.requires in
     let p = (end_placed a.task a.plans.now a.end c.in-Clear.node c.in-Clear.made c.in-Clear.is pre.placed) in
-    (p.count_most, p.horizon_most, stretch_inside a.task a.plans.now c.in-Clear.node p (a.task.team.count * (a.task.horizon + 1)) refl)
+    (p.count_most, p.horizon_most, stretch_inside a.task a.plans.now c.in-Clear.node p (a.task.job.team.count * (a.task.job.horizon + 1)) refl)
 
 pub returns-in-Spent : goal.returns-in-Spent
 returns-in-Spent c =
@@ -50,7 +50,7 @@ returns-in-Clear c =
     let pre = c.requires in
     let copy-out = c.copy_out in
     let stretch-of = c.stretch_of-size in
-    let sum-at = c.sum_at in
+    let sum-at = c.sum_at-sum in
     told_clear a.task a.plans.now a.output.now copy-out.new.output a.end c.in-Clear.node c.in-Clear.made stretch-of.result sum-at.result c.in-Clear.is
     (end_placed a.task a.plans.now a.end c.in-Clear.node c.in-Clear.made c.in-Clear.is pre.placed)
     stretch-of.ensures sum-at.ensures copy-out.ensures

@@ -1,9 +1,9 @@
 -- `reading::read_full` meets its contract: each read goes behind the bytes before it, and one that gives none says that the input has
 -- ended. Assumes nothing.
-use Rattle.std.proofs.Common.{◌≡◌, ℕ, ◌+◌, ◌-◌, ◌≤◌, List, ◌++◌, arith, length, take, sym, ap, ◌∙◌, subst, le_refl, drop_at, length-take-le, append-nil, rules}
+use Rattle.std.proofs.Common.{◌≡◌, ℕ, ◌+◌, ◌-◌, ◌≤◌, List, ◌++◌, length, take, sym, ap, ◌∙◌, subst, le_refl, drop_at, length-take-le, rules}
 use Rattle.std.proofs.lemmas.Slice.{take-put_mid_below}
 use Rattle.std.specs.Io.KnownBytes.{Consumes}
-use Rattle.std.proofs.KnownBytes.{Consumes-nil, Consumes-trans}
+use Rattle.std.proofs.KnownBytes.{Consumes-trans}
 use borrow.Rule.Slice.PartMut.{put_mid, post_of}
 use lib.Seq.{take-add, take-append-le}
 use lib.ListN.{drop}
@@ -18,16 +18,6 @@ take-put_mid at room n xs ys within fits =
     ∙ ap (λ l. take at xs ++ take n l) behind
     ∙ ap (λ l. take at xs ++ l) (take-append-le n ys (post_of at room xs) fits)
 
-pub loop-size-init : goal.loop-size-init
-loop-size-init g c = (omega arith, Consumes-nil _)
-
-pub returns-then-count-eq0-clause-bytes : goal.returns-then-count-eq0-clause-bytes
-returns-then-count-eq0-clause-bytes g c =
-    let front = take c.loop-size.size c.loop-size.buffer in
-    let none_more = ap (λ n. front ++ take n c.read.new.buf) c.if-count-eq0.true ∙ append-nil front in
-    let same = sym (take-put_mid_below _ _ _ _ _ (le_refl _) c.loop-size.invariant.0) in
-    subst (Consumes _ _) (none_more ∙ same) (Consumes-trans _ _ _ _ _ c.loop-size.invariant.1 c.in_ok-count.ensures.bytes.0)
-
 pub loop-size-preserved : goal.loop-size-preserved
 loop-size-preserved g c =
     let size = c.loop-size.size in
@@ -37,9 +27,3 @@ loop-size-preserved g c =
     let within = c.loop-size.invariant.0 in
     let joined = take-put_mid size room n buffer c.read.new.buf within c.in_ok-count.ensures.bound.0 in
     (search rules, subst (Consumes _ _) (sym joined) (Consumes-trans _ _ _ _ _ c.loop-size.invariant.1 c.in_ok-count.ensures.bytes.0))
-
-pub returns-clause-inside : goal.returns-clause-inside
-returns-clause-inside g c = c.loop-size.invariant.0
-
-pub returns-clause-bytes : goal.returns-clause-bytes
-returns-clause-bytes g c = c.loop-size.invariant.1

@@ -1,11 +1,8 @@
 -- The loop's invariant: of the move's bytes the first v are made. Assumes nothing.
-use Prim.Native.Nat.{◌-◌, ◌*◌, ◌≤◌}
+use Prim.Native.Nat.{◌*◌}
 use Rattle.lent.specs.Made.{Made}
 use Rattle.shuts.proofs.Moves.{crossing_mark}
 use Rattle.shuts.proofs.shut_crossings.Given as goal
 
 abbrev pub invariant-loop-v : goal.invariant-loop-v
-invariant-loop-v l = (l.v ≤ l.size) × Made (l.m * 256) l.v (λ u x. crossing_mark l.floor l.layers l.from l.m u) l.initial.shuts l.shuts
-
-abbrev pub decreases-loop-v : goal.decreases-loop-v
-decreases-loop-v l = l.size - l.v
+invariant-loop-v l = Made (l.m * 256) l.v (λ u x. crossing_mark l.floor l.digits l.m u) l.initial.shuts l.shuts

@@ -1,5 +1,0 @@
--- A number from ten on is written as its tenth and then its last digit; the number falls with each call.
-use Rattle.text.proofs.+put_number.Given as goal
-
-abbrev pub decreases-put_number : goal.decreases-put_number
-decreases-put_number l = l.n
