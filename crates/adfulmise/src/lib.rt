@@ -2,14 +2,13 @@
 // Crate adfulmise_c exports them, and `include/adfulmise.h` says the same for C. No function asks anything of its caller.
 #![tactic(auto)]
 
-ghost use Rattle.std.specs.Prelude.{◌≡◌, length};
+ghost use Rattle.std.specs.Prelude.{◌≡◌};
 ghost use Rattle.job.specs.Team.{job_of};
 ghost use Rattle.carriers.specs.Lent.{records_team};
 ghost use Rattle.routes.specs.Check.{route_verdict, route_told};
 ghost use Rattle.clashes.specs.Check.{meeting_verdict, meeting_told};
-ghost use Rattle.book.specs.Book.{body_of, body_place};
 ghost use Rattle.planner.specs.Answer.{answer_told};
-ghost use Rattle.adfulmise.specs.Lent.{written, told_values, fault_values, place_values};
+ghost use Rattle.adfulmise.specs.Lent.{written, told_values, fault_values};
 ghost use Rattle.adfulmise.specs.Post.{Answered, Checked, Read};
 
 use carriers::Carrier;
@@ -127,21 +126,20 @@ pub fn adfulmise_check_meetings(
     tell_fault(told::meeting_told(verdict), told)
 }
 
-// Where in the book the body of a kind begins, and how long it is; 0 and 0 with a refusal.
+// The book reader: `place` becomes the offset and the length in the book of the body of that kind, 0 and 0 with a refusal. The book is
+// parsed once, for the place and the number.
 #[tactic(auto, using(book::proofs::Lengths::asked_length, book::proofs::Verdicts::asked_good, book::proofs::Places::good_place, book::proofs::Places::refused_place, book::proofs::Verdicts::refused_empty))]
-fn body_place(book: &[u8], kind: u8) -> [usize; 2]
-    ensures { result ≡ place_values (body_place book.now kind) (length (body_of book.now kind)) }
-{
-    match book::parse_entry(book, kind) {
-        Ok(entry) => [entry.start(), usize::from(entry.length)],
-        Err(_) => [0, 0],
-    }
-}
-
-// The book reader: `place` becomes the offset and the length in the book of the body of that kind, 0 and 0 with a refusal.
 pub fn adfulmise_read(book: &[u8], kind: u8, place: &mut [usize]) -> usize
     ensures { Read book.now kind place.old result place.new }
 {
-    write(body_place(book, kind), place);
-    book::book_number(book::judge_asked(book, kind))
+    match book::parse_entry(book, kind) {
+        Ok(entry) => {
+            write([entry.start(), usize::from(entry.length)], place);
+            0
+        }
+        Err(refusal) => {
+            write([0, 0], place);
+            book::book_number(Err(refusal))
+        }
+    }
 }

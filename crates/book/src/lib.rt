@@ -17,7 +17,7 @@ pub enum BookRefusal {
 }
 
 // 'Contents first, then bodies. Byte 0 is 3. Three entries of 5 bytes follow'
-const CONTENTS_LENGTH: usize = 16;
+pub const CONTENTS_LENGTH: usize = 16;
 
 const ENTRY_COUNT: u8 = 3;
 

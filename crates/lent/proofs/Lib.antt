@@ -1,3 +1,4 @@
+pub mod Copies
 pub mod Keeping
 pub mod MadeLaws
 pub mod Wrong

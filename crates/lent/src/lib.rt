@@ -14,12 +14,15 @@ pub fn clear<T: Copy>(items: &mut [T], n: usize, zero: T)
     items[..n].fill(zero);
 }
 
-// 'Output changes only for 0: carrier by carrier, its cells for steps 0 to H, the rest unchanged.'
+// 'Output changes only for 0: carrier by carrier, its cells for steps 0 to H, the rest unchanged.' Entry by entry: for `copy_from_slice`
+// the archive needs `memmove`, and the header tells C of no function from outside but memset and memcpy.
 pub fn copy_out(plans: &[u8], from: usize, n: usize, output: &mut [u8])
     requires { (from + n ≤ length plans.now) × (n ≤ length output.old) }
     ensures { output.new ≡ take n (drop from plans.now) ++ drop n output.old }
 {
-    output[..n].copy_from_slice(&plans[from..from + n]);
+    for (i, cell) in plans[from..from + n].iter().enumerate() {
+        output[i] = *cell;
+    }
 }
 
 // 'Each node's routes fill their own stretch of the plans table': a child's stretch is first its parent's.

@@ -3,7 +3,18 @@
 // check and of the meeting check, then an empty line.
 #![tactic(auto)]
 
+ghost use Rattle.std.specs.Prelude.{◌≡◌};
+ghost use Rattle.job.specs.Team.{job_of};
+ghost use Rattle.carriers.specs.Lent.{records_team};
+ghost use Rattle.routes.specs.Check.{route_verdict};
+ghost use Rattle.clashes.specs.Check.{meeting_verdict};
+ghost use Rattle.planner.specs.Post.{Planned};
+
 use carriers::Carrier;
+use clashes::Clash;
+use job::CheckRefusal;
+use planner::{Denial, Plan};
+use routes::Place;
 use std::io;
 
 // Open floors.
@@ -50,6 +61,53 @@ const FIVE_BY_THREE: Floor = Floor {
     height: 3,
 };
 
+// A floor's job whose carriers are lent as records, to the planner: all that are lent, and no others.
+fn plan_lent(
+    floor: Floor,
+    carriers: &[Carrier],
+    h: usize,
+    n: usize,
+    columns: &mut [u16],
+    plans: &mut [u8],
+    layers: &mut [u8],
+    output: &mut [u8],
+) -> Result<Plan, Denial>
+    ensures { Planned (job_of floor.width floor.height floor.hall.now (records_team carriers.now) h) n (record { columns = columns.old; plans = plans.old; layers = layers.old; output = output.old }) result (record { columns = columns.new; plans = plans.new; layers = layers.new; output = output.new }) }
+{
+    let Floor {
+        hall,
+        width,
+        height,
+    } = floor;
+    entry::plan(
+        hall, width, height, carriers, h, n, columns, plans, layers, output,
+    )
+}
+
+// The same, lent to the route check.
+fn routes_lent(
+    floor: Floor,
+    carriers: &[Carrier],
+    h: usize,
+    plan: &[u8],
+) -> Result<Option<Place>, CheckRefusal>
+    ensures { result ≡ route_verdict (job_of floor.width floor.height floor.hall.now (records_team carriers.now) h) plan.now }
+{
+    entry::check_routes(floor.hall, floor.width, floor.height, carriers, h, plan)
+}
+
+// And to the meeting check.
+fn meetings_lent(
+    floor: Floor,
+    carriers: &[Carrier],
+    h: usize,
+    plan: &[u8],
+) -> Result<Clash, CheckRefusal>
+    ensures { result ≡ meeting_verdict (job_of floor.width floor.height floor.hall.now (records_team carriers.now) h) plan.now }
+{
+    entry::check_meetings(floor.hall, floor.width, floor.height, carriers, h, plan)
+}
+
 // From a start to a goal, with a slip.
 fn goes(start: u8, goal: u8, slip: u8) -> Carrier {
     Carrier { start, goal, slip }
@@ -57,19 +115,12 @@ fn goes(start: u8, goal: u8, slip: u8) -> Carrier {
 
 // Columns of the greatest length for N = 128, and plans of that for N = 16: for N = 128 they are enough here.
 fn show(rt: &impl Print, floor: Floor, carriers: &[Carrier], h: usize, n: usize) -> io::Result<()> {
-    let Floor {
-        hall,
-        width,
-        height,
-    } = floor;
     let mut columns = [0u16; 1024];
     let mut plans = [0u8; 8192];
     let mut layers = [0u8; 32768];
     let mut output = [0u8; 512];
-    let answer = entry::plan(
-        hall,
-        width,
-        height,
+    let answer = plan_lent(
+        floor,
         carriers,
         h,
         n,
@@ -82,10 +133,8 @@ fn show(rt: &impl Print, floor: Floor, carriers: &[Carrier], h: usize, n: usize)
     let mut out = [0u8; 4096];
     let end = lines::answer_lines(answer, team, h, &output, &mut out);
     rt.write_all(&out[..end])?;
-    let verdict = entry::check_routes(hall, width, height, carriers, h, &output);
-    let routes = told::route_told(verdict).number;
-    let verdict = entry::check_meetings(hall, width, height, carriers, h, &output);
-    let meetings = told::meeting_told(verdict).number;
+    let routes = told::route_told(routes_lent(floor, carriers, h, &output)).number;
+    let meetings = told::meeting_told(meetings_lent(floor, carriers, h, &output)).number;
     println!(rt; "routes {routes}\nmeetings {meetings}\n")
 }
 

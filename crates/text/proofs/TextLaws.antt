@@ -23,6 +23,11 @@ pub put_none : (p : Page) → put p [] ≡ p
 unfolding put
 put_none p = refl
 
+-- this joins the clause of `Page::byte`, which puts a text of one byte, to the laws of its wrong answers, which speak of `put_byte`
+pub put_one : (p : Page) (b : ℕ) → put p (b ∷ []) ≡ put_byte p b
+unfolding put
+put_one p b = refl
+
 -- ---- one byte
 
 pub byte_inside : (xs : List ℕ) (at b : ℕ) → at < length xs → page (set xs at b) (at + 1) ≡ put_byte (page xs at) b

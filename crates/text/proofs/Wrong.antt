@@ -7,7 +7,7 @@ use mathlib.Core.Path.{◌≡◌, ap}
 use lib.ListN.{get_or}
 use Rattle.text.specs.Text.{Page, page, put_byte, put, digits_within, digits}
 
--- ---- byte
+-- ---- byte: its clause puts a text of one byte, which is `put_byte` (`put_one`)
 
 -- a page of one byte has no room at 1
 pub full_page_told_longer : (given : List ℕ) → page given 2 ≡ put_byte (page (0 ∷ []) 1) 65 → ⊥
